@@ -60,7 +60,7 @@ over "$work/empty" explain "$work/bad.ol"
 row 'a refusal is explained by its line, a mark and the rule' 3 "$work/bad.ol:1:20: \`comp\` stands in no handler [check CompOutsideHandler]
 service S { main { comp(q) } }
                    ^
-rule: \`comp\` stands in a handler of \`install\`, or of the brackets behind a call" ''
+rule: \`comp\` stands in a handler of \`install\`, or of the brackets after a call" ''
 none="roqsulei: $work/none.ol: No such file or directory (os error 2)"
 over "$work/empty" explain "$work/none.ol"
 row 'a file that is not there is told' 2 "$work/none.ol: cannot be read" "$none"

@@ -41,7 +41,7 @@ service FlightS {
   main {
     while (true) {
       scope(turn) {
-        install(NotFree => nullProcess) ;
+        install(NotFree => nullProcess, ExprFault => nullProcess) ;
         [ book(t)(n) { if (t.full == name) { throw(NotFree, name) } ; booked++ ; n = booked } ] { nullProcess }
         [ cancel(t)(n) { booked-- ; n = booked } ] { nullProcess }
       }
@@ -55,7 +55,7 @@ service HotelS {
   main {
     while (true) {
       scope(turn) {
-        install(NotFree => nullProcess) ;
+        install(NotFree => nullProcess, ExprFault => nullProcess) ;
         [ book(t)(n) { if (t.full == name) { throw(NotFree, name) } ; booked++ ; n = booked } ] { nullProcess }
         [ cancel(t)(n) { booked-- ; n = booked } ] { nullProcess }
       }
@@ -69,7 +69,7 @@ service CarS {
   main {
     while (true) {
       scope(turn) {
-        install(NotFree => nullProcess) ;
+        install(NotFree => nullProcess, ExprFault => nullProcess) ;
         [ book(t)(n) { if (t.full == name) { throw(NotFree, name) } ; booked++ ; n = booked } ] { nullProcess }
         [ cancel(t)(n) { booked-- ; n = booked } ] { nullProcess }
       }
@@ -83,7 +83,7 @@ service GuideS {
   main {
     while (true) {
       scope(turn) {
-        install(NotFree => nullProcess) ;
+        install(NotFree => nullProcess, ExprFault => nullProcess) ;
         [ book(t)(n) { if (t.full == name) { throw(NotFree, name) } ; booked++ ; n = booked } ] { nullProcess }
         [ cancel(t)(n) { booked-- ; n = booked } ] { nullProcess }
       }
@@ -97,7 +97,7 @@ service CoverS {
   main {
     while (true) {
       scope(turn) {
-        install(NotFree => nullProcess) ;
+        install(NotFree => nullProcess, ExprFault => nullProcess) ;
         [ book(t)(n) { if (t.full == name) { throw(NotFree, name) } ; booked++ ; n = booked } ] { nullProcess }
         [ cancel(t)(n) { booked-- ; n = booked } ] { nullProcess }
       }

@@ -6,51 +6,53 @@ use Rattle.explain_notes.specs.Mentions.{Seen}
 use Rattle.explain_notes.specs.Services.{service_mentions}
 use Rattle.explain_notes.specs.declared.kind.NoteKind.{NoteKind}
 use Rattle.explain_notes.specs.declared.kind.NoteKind.TheVariants as kind
-use Rattle.explain_notes.specs.Notes.{Noted, kinds_always, kinds_by_sessions, notes_after, notes_by, notes_for, service_notes, texts_met}
+use Rattle.explain_notes.specs.Notes.{Noted, Told, kinds_always, kinds_by_sessions, notes_after, notes_by, notes_for, service_notes, texts_met}
 use Rattle.explain_notes.proofs.Turns.{behind_two}
 
 -- a kind that is noted of names that nothing meets
-pub of_the_unmet : (k : NoteKind) (met content : List (List ℕ)) (ms : Seen) → (k ≡ kind.TreeCut → ⊥) → (k ≡ kind.LiteralCut → ⊥) → (k ≡ kind.Unanswered → ⊥)
+pub of_the_unmet : (k : NoteKind) (met content : List (List ℕ)) (ms : Seen) → (k ≡ kind.TreeCut → ⊥) → (k ≡ kind.LiteralCut → ⊥) → (k ≡ kind.OwnSocket → ⊥) → (k ≡ kind.Unanswered → ⊥)
     → notes_by k met content ms ≡ notes_after k met ms
-of_the_unmet kind.Uncaught met content ms tree literal unanswered = refl
-of_the_unmet kind.UncaughtInLoop met content ms tree literal unanswered = refl
-of_the_unmet kind.EndsService met content ms tree literal unanswered = refl
-of_the_unmet kind.EndsByArithmetic met content ms tree literal unanswered = refl
-of_the_unmet kind.Unthrown met content ms tree literal unanswered = refl
-of_the_unmet kind.NoScope met content ms tree literal unanswered = refl
-of_the_unmet kind.Unsent met content ms tree literal unanswered = refl
-of_the_unmet kind.Unset met content ms tree literal unanswered = refl
-of_the_unmet kind.Unread met content ms tree literal unanswered = refl
-of_the_unmet kind.Forgotten met content ms tree literal unanswered = refl
-of_the_unmet kind.TreeCut met content ms tree literal unanswered = absurd (tree refl)
-of_the_unmet kind.LiteralCut met content ms tree literal unanswered = absurd (literal refl)
-of_the_unmet kind.Unanswered met content ms tree literal unanswered = absurd (unanswered refl)
+of_the_unmet kind.Uncaught met content ms tree literal socket unanswered = refl
+of_the_unmet kind.UncaughtInLoop met content ms tree literal socket unanswered = refl
+of_the_unmet kind.EndsService met content ms tree literal socket unanswered = refl
+of_the_unmet kind.EndsLoop met content ms tree literal socket unanswered = refl
+of_the_unmet kind.Unthrown met content ms tree literal socket unanswered = refl
+of_the_unmet kind.NothingUndone met content ms tree literal socket unanswered = refl
+of_the_unmet kind.Unsent met content ms tree literal socket unanswered = refl
+of_the_unmet kind.OwnSocket met content ms tree literal socket unanswered = absurd (socket refl)
+of_the_unmet kind.Unset met content ms tree literal socket unanswered = refl
+of_the_unmet kind.Unread met content ms tree literal socket unanswered = refl
+of_the_unmet kind.Forgotten met content ms tree literal socket unanswered = refl
+of_the_unmet kind.TreeCut met content ms tree literal socket unanswered = absurd (tree refl)
+of_the_unmet kind.LiteralCut met content ms tree literal socket unanswered = absurd (literal refl)
+of_the_unmet kind.Unanswered met content ms tree literal socket unanswered = absurd (unanswered refl)
 
 -- a kind whose names no text meets
-pub met_by_no_text : (declared : List (List ℕ)) (k : NoteKind) → (k ≡ kind.Uncaught → ⊥) → (k ≡ kind.UncaughtInLoop → ⊥) → (k ≡ kind.Unthrown → ⊥) → (k ≡ kind.Unset → ⊥)
-    → texts_met declared k ≡ []
-met_by_no_text declared kind.Uncaught uncaught many unthrown unset = absurd (uncaught refl)
-met_by_no_text declared kind.UncaughtInLoop uncaught many unthrown unset = absurd (many refl)
-met_by_no_text declared kind.EndsService uncaught many unthrown unset = refl
-met_by_no_text declared kind.EndsByArithmetic uncaught many unthrown unset = refl
-met_by_no_text declared kind.Unthrown uncaught many unthrown unset = absurd (unthrown refl)
-met_by_no_text declared kind.NoScope uncaught many unthrown unset = refl
-met_by_no_text declared kind.Unsent uncaught many unthrown unset = refl
-met_by_no_text declared kind.Unset uncaught many unthrown unset = absurd (unset refl)
-met_by_no_text declared kind.Unread uncaught many unthrown unset = refl
-met_by_no_text declared kind.Forgotten uncaught many unthrown unset = refl
-met_by_no_text declared kind.TreeCut uncaught many unthrown unset = refl
-met_by_no_text declared kind.LiteralCut uncaught many unthrown unset = refl
-met_by_no_text declared kind.Unanswered uncaught many unthrown unset = refl
+pub met_by_no_text : (t : Told) (k : NoteKind) → (k ≡ kind.Uncaught → ⊥) → (k ≡ kind.UncaughtInLoop → ⊥) → (k ≡ kind.Unthrown → ⊥) → (k ≡ kind.OwnSocket → ⊥) → (k ≡ kind.Unset → ⊥)
+    → texts_met t k ≡ []
+met_by_no_text t kind.Uncaught uncaught many unthrown socket unset = absurd (uncaught refl)
+met_by_no_text t kind.UncaughtInLoop uncaught many unthrown socket unset = absurd (many refl)
+met_by_no_text t kind.EndsService uncaught many unthrown socket unset = refl
+met_by_no_text t kind.EndsLoop uncaught many unthrown socket unset = refl
+met_by_no_text t kind.Unthrown uncaught many unthrown socket unset = absurd (unthrown refl)
+met_by_no_text t kind.NothingUndone uncaught many unthrown socket unset = refl
+met_by_no_text t kind.Unsent uncaught many unthrown socket unset = refl
+met_by_no_text t kind.OwnSocket uncaught many unthrown socket unset = absurd (socket refl)
+met_by_no_text t kind.Unset uncaught many unthrown socket unset = absurd (unset refl)
+met_by_no_text t kind.Unread uncaught many unthrown socket unset = refl
+met_by_no_text t kind.Forgotten uncaught many unthrown socket unset = refl
+met_by_no_text t kind.TreeCut uncaught many unthrown socket unset = refl
+met_by_no_text t kind.LiteralCut uncaught many unthrown socket unset = refl
+met_by_no_text t kind.Unanswered uncaught many unthrown socket unset = refl
 
 -- the notes of the kinds that each service has, and of those by its sessions, one after the other
-pub one_after_the_other : (declared content : List (List ℕ)) (s : Service) (ms : Seen) (always kinds : List NoteKind) (p0 p1 p2 : List Noted)
+pub one_after_the_other : (t : Told) (s : Service) (ms : Seen) (always kinds : List NoteKind) (p0 p1 p2 : List Noted)
     → ms ≡ service_mentions s → always ≡ kinds_always → kinds ≡ kinds_by_sessions s
-    → p1 ≡ p0 ++ flat_map (notes_for declared content ms) always → p2 ≡ p1 ++ flat_map (notes_for declared content ms) kinds
-    → p2 ≡ p0 ++ service_notes declared content s
-one_after_the_other declared content s ms always kinds p0 p1 p2 seen every others first second =
-    behind_two p0 p1 p2 (flat_map (notes_for declared content ms) always) (flat_map (notes_for declared content ms) kinds) first second
-    ∙ ap (λ ns. p0 ++ ns) (sym (flat_map-append (notes_for declared content ms) always kinds))
-    ∙ ap (λ ks. p0 ++ flat_map (notes_for declared content ms) (ks ++ kinds)) every
-    ∙ ap (λ ks. p0 ++ flat_map (notes_for declared content ms) (kinds_always ++ ks)) others
-    ∙ ap (λ x. p0 ++ flat_map (notes_for declared content x) (kinds_always ++ kinds_by_sessions s)) seen
+    → p1 ≡ p0 ++ flat_map (notes_for t ms) always → p2 ≡ p1 ++ flat_map (notes_for t ms) kinds
+    → p2 ≡ p0 ++ service_notes t s
+one_after_the_other t s ms always kinds p0 p1 p2 seen every others first second =
+    behind_two p0 p1 p2 (flat_map (notes_for t ms) always) (flat_map (notes_for t ms) kinds) first second
+    ∙ ap (λ ns. p0 ++ ns) (sym (flat_map-append (notes_for t ms) always kinds))
+    ∙ ap (λ ks. p0 ++ flat_map (notes_for t ms) (ks ++ kinds)) every
+    ∙ ap (λ ks. p0 ++ flat_map (notes_for t ms) (kinds_always ++ ks)) others
+    ∙ ap (λ x. p0 ++ flat_map (notes_for t x) (kinds_always ++ kinds_by_sessions s)) seen

@@ -1,5 +1,7 @@
 -- Lists that grow by what is seen.
-use Rattle.std.proofs.Common.{◌≡◌, ℕ, ◌+◌, ◌<◌, List, [], ◌∷◌, ◌++◌, map, length, get_or, take, refl, ap, sym, ◌∙◌, flat_map, append_assoc, append-nil}
+use Rattle.std.proofs.Common.{◌≡◌, ℕ, ◌+◌, ◌<◌, Bool, List, [], ◌∷◌, ◌++◌, map, length, get_or, take, refl, ap, sym, ◌∙◌, flat_map, append_assoc, append-nil}
+use Rattle.std.specs.Prelude.{◌||◌}
+use Rattle.std.specs.List.{list_any}
 use Rattle.std.proofs.lemmas.List.{flat_map_more, take_more, map-append}
 
 module _ {A : Type 0} where
@@ -39,6 +41,12 @@ mapped_joined f (x ∷ xs) = ap (λ ys. f x ++ ys) (mapped_joined f xs)
 pub mapped_parts : {X Y A : Type 0} (g : Y → List A) (f : X → Y) (xs : List X) → flat_map g (map f xs) ≡ flat_map (λ x. g (f x)) xs
 mapped_parts g f [] = refl
 mapped_parts g f (x ∷ xs) = ap (λ ys. g (f x) ++ ys) (mapped_parts g f xs)
+
+-- one of what was mapped passes, where each passes as what it is of does
+pub mapped_any : {X Y : Type 0} (test : Y → Bool) (f : X → Y) (same : X → Bool) → ((x : X) → test (f x) ≡ same x) → (xs : List X) → list_any test (map f xs) ≡ list_any same xs
+mapped_any test f same each [] = refl
+mapped_any test f same each (x ∷ xs) =
+    ap (λ b. b || list_any test (map f xs)) (each x) ∙ ap (λ b. same x || b) (mapped_any test f same each xs)
 
 -- nothing was added
 pub nothing_added : {A : Type 0} (xs ms : List A) → ms ≡ [] → xs ≡ xs ++ ms

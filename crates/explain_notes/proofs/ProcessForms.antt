@@ -20,11 +20,11 @@ use Rattle.jolie_ast.specs.declared.process.Branch.{Branch, out-Branch, roll-out
 use Rattle.jolie_ast.specs.declared.process.Answer.{Answer, out-Answer, roll-Answer, roll-out-Answer}
 use Rattle.jolie_ast.specs.declared.process.Handler.{Handler, out-Handler, roll-out-Handler}
 use Rattle.explain_notes.specs.declared.role.Role.TheVariants as role
-use Rattle.explain_notes.specs.Mentions.{Seen, mention, around_scope, in_role, kept_role, looped_role, turned_role}
+use Rattle.explain_notes.specs.Mentions.{Seen, mention, around_scope, around_while, in_role, kept_role, looped_role, scope_role}
 use Rattle.explain_notes.specs.Expressions.{expr_mentions, path_walked}
 use Rattle.explain_notes.specs.Statements.{assigned_mentions, begun_mentions, handler_mentions_of, if_written, received_mentions, request_mentions, stepped_mentions}
 use Rattle.explain_notes.specs.Processes.{process_level, block_mentions, process_seen}
-use Rattle.explain_notes.specs.Parts.{after_input, process_mentions, if_mentions, otherwise_mentions, input_mentions, reply_mentions, branch_mentions, answer_mentions, handler_mentions}
+use Rattle.explain_notes.specs.Parts.{after_input, asked_by, asked_mentions, process_mentions, if_mentions, otherwise_mentions, input_mentions, reply_mentions, branch_mentions, answer_mentions, handler_mentions}
 use Rattle.explain_notes.proofs.Lists.{mapped_joined}
 use Rattle.jolie_ast.proofs.Folds.{process_rolls, block_rolls, conditional_rolls, otherwise_rolls, input_rolls, reply_rolls, branch_rolls, answer_rolls, handler_rolls}
 use Rattle.jolie_ast.specs.Folds.{else_or}
@@ -52,7 +52,7 @@ correlate_is at variable value = process_made (Process-F.Correlate at variable v
 pub conditional_is : (i : If) → process_mentions (process.If i) ≡ if_mentions i
 conditional_is i = process_made (Process-F.If i) (process.rolls-If i)
 
-pub while_is : (at : ℕ) (test : Expr) (body : Block) → process_mentions (process.While at test body) ≡ expr_mentions test ++ map (in_role turned_role) (block_mentions body)
+pub while_is : (at : ℕ) (test : Expr) (body : Block) → process_mentions (process.While at test body) ≡ around_while (expr_mentions test ++ block_mentions body)
 while_is at test body = process_made (Process-F.While at test body) (process.rolls-While at test body)
 
 pub for_is : (at : ℕ) (path : Path) (first : Expr) (test : Expr) (stepped : Path) (step : ForStep) (body : Block) → process_mentions (process.For at path first test stepped step body) ≡ begun_mentions path first test ++ (stepped_mentions stepped step ++ map (in_role looped_role) (block_mentions body))
@@ -68,7 +68,7 @@ pub output_is : (operation : Name) (port : Name) (value : Option Expr) (answer :
 output_is operation port value None = process_made (Process-F.Output operation port value None) (process.rolls-Output operation port value None)
 output_is operation port value (Some it) = process_made (Process-F.Output operation port value (Some it)) (process.rolls-Output operation port value (Some it))
 
-pub scope_is : (at : ℕ) (name : Name) (body : Block) → process_mentions (process.Scope at name body) ≡ mention role.Scope name ∷ around_scope (block_mentions body)
+pub scope_is : (at : ℕ) (name : Name) (body : Block) → process_mentions (process.Scope at name body) ≡ mention (scope_role (block_mentions body)) name ∷ around_scope (block_mentions body)
 scope_is at name body = process_made (Process-F.Scope at name body) (process.rolls-Scope at name body)
 
 pub install_is : (at : ℕ) (handlers : List Handler) → process_mentions (process.Install at handlers) ≡ flat_map handler_mentions handlers
@@ -130,10 +130,12 @@ reply_is r operation taken =
     ap (λ (q : Reply). reply_mentions q operation taken) (sym (roll-out-Reply r))
     ∙ ap (λ (f : Name → Seen → Seen). f operation taken) (reply_rolls process_seen (out-Reply r))
 
--- an input by its reply part, before what stands behind it
+-- an input by its reply part, before what stands after it
 abbrev pub asked_before : Name → Option Path → Option Reply → Seen → Seen
-asked_before operation request None after = received_mentions request ++ map (in_role kept_role) after
-asked_before operation request (Some r) after = reply_mentions r operation (received_mentions request) ++ after
+asked_before operation request None after =
+    mention role.Taken operation ∷ (received_mentions request ++ map (in_role kept_role) after)
+asked_before operation request (Some r) after =
+    mention role.Taken operation ∷ (reply_mentions r operation (received_mentions request) ++ after)
 
 input_made : (operation : Name) (request : Option Path) (reply : Option Reply) (after : Seen) → input_mentions (roll-Input (record { operation = operation; request = request; reply = reply })) after ≡ asked_before operation request reply after
 unfolding otherwise_mentions process_mentions answer_mentions block_mentions branch_mentions handler_mentions if_mentions input_mentions reply_mentions
@@ -145,22 +147,18 @@ input_before i after =
     ap (λ (j : Input). input_mentions j after) (sym (roll-out-Input i))
     ∙ input_made (out-Input i).operation (out-Input i).request (out-Input i).reply after
 
--- an input by its reply part
-abbrev pub asked_by : Name → Option Path → Option Reply → Seen
-asked_by operation request None = received_mentions request
-asked_by operation request (Some r) = reply_mentions r operation (received_mentions request)
-
--- what stands behind an input comes after it
-asked_parts : (operation : Name) (request : Option Path) (reply : Option Reply) (after : Seen) → asked_before operation request reply after ≡ asked_by operation request reply ++ after_input (is_some reply) after
+-- what stands after an input comes after it
+asked_parts : (operation : Name) (request : Option Path) (reply : Option Reply) (after : Seen) → asked_before operation request reply after ≡ (mention role.Taken operation ∷ asked_by operation request reply) ++ after_input (is_some reply) after
 asked_parts operation request None after = refl
 asked_parts operation request (Some it) after = refl
 
--- where nothing stands behind it
-asked_alone : (operation : Name) (request : Option Path) (reply : Option Reply) → asked_before operation request reply [] ≡ asked_by operation request reply
-asked_alone operation request None = append-nil (received_mentions request)
-asked_alone operation request (Some it) = append-nil (reply_mentions it operation (received_mentions request))
+-- where nothing stands after it
+asked_alone : (operation : Name) (request : Option Path) (reply : Option Reply) → asked_before operation request reply [] ≡ mention role.Taken operation ∷ asked_by operation request reply
+asked_alone operation request None = ap (λ ms. mention role.Taken operation ∷ ms) (append-nil (received_mentions request))
+asked_alone operation request (Some it) =
+    ap (λ ms. mention role.Taken operation ∷ ms) (append-nil (reply_mentions it operation (received_mentions request)))
 
-pub input_is : (i : Input) → input_mentions i [] ≡ asked_by (out-Input i).operation (out-Input i).request (out-Input i).reply
+pub input_is : (i : Input) → input_mentions i [] ≡ mention role.Taken (out-Input i).operation ∷ asked_mentions i
 input_is i = input_before i [] ∙ asked_alone (out-Input i).operation (out-Input i).request (out-Input i).reply
 
 branch_made : (b : Branch) → branch_mentions b ≡ input_mentions (out-Branch b).input (block_mentions (out-Branch b).after)

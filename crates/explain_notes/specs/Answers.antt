@@ -33,7 +33,7 @@ asks_often _ = false
 abbrev pub asks_fields : List Field → Bool
 asks_fields fields = list_any (λ (f : Field). asks_often (out-Field f).cardinality) fields
 
--- the body of a type; another name is not looked behind
+-- the body of a type; another name is not followed
 abbrev pub asks_body : TypeBody → Bool
 asks_body body = elim (out-TypeBody body) [
   | TypeBody-F.Root at kind fields ↦ asks_root kind || asks_fields (unwrap_or fields [])

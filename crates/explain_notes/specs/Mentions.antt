@@ -20,6 +20,14 @@ Seen = List Mentioned
 abbrev pub mention : Role → Name → Mentioned
 mention r n = record { role = r; name = n }
 
+-- a text at a place, as a name has it
+abbrev pub word : ℕ → List ℕ → Name
+word at text = record { text = text; at = at }
+
+-- ExprFault at a place, where an expression there may have no value
+abbrev pub fails_at : Bool → ℕ → Seen
+fails_at fails at = if fails then mention role.Failing (word at (codes "ExprFault")) ∷ [] else []
+
 -- ---- roles
 
 -- a variable gets a value
@@ -42,30 +50,40 @@ abbrev pub is_handled : Role → Bool
 is_handled role.Handled = true
 is_handled r = false
 
--- a sum or a product may fail there, and no scope around it handles that yet
-abbrev pub is_reckoned : Role → Bool
-is_reckoned role.Reckoned = true
-is_reckoned role.ReckonedInLoop = true
-is_reckoned r = false
+-- an expression may have no value there, and no scope around it handles that yet
+abbrev pub is_failing : Role → Bool
+is_failing role.Failing = true
+is_failing role.FailingInLoop = true
+is_failing r = false
+
+-- the message of an operation is taken
+abbrev pub is_taken : Role → Bool
+is_taken role.Taken = true
+is_taken r = false
+
+-- the nearest scope has a handler under `this`
+abbrev pub is_undoing : Role → Bool
+is_undoing role.Undoing = true
+is_undoing r = false
 
 -- in a loop
 abbrev pub looped_role : Role → Role
 looped_role role.Thrown = role.ThrownInLoop
 looped_role r = r
 
--- in a `while`, as a service has one that takes message after message
+-- in a `while` that takes messages, as a service has one for message after message
 abbrev pub turned_role : Role → Role
-turned_role role.Reckoned = role.ReckonedInLoop
+turned_role role.Failing = role.FailingInLoop
 turned_role r = looped_role r
 
--- in the braces behind an input that is not answered
+-- in the braces after an input that is not answered
 abbrev pub kept_role : Role → Role
 kept_role role.Set = role.Kept
 kept_role r = r
 
 -- where faults end by themselves
 abbrev pub caught_role : Role → Role
-caught_role r = if is_free r then role.Caught else if is_reckoned r then role.ReckonedSafely else r
+caught_role r = if is_free r then role.Caught else if is_failing r then role.FailingSafely else r
 
 -- in the handler of this fault: thrown again it passes its own scope
 abbrev pub rethrown_role : Role → Role
@@ -79,14 +97,14 @@ filled_role r = if is_set r then role.Filled else r
 abbrev pub freed_role : Role → Role
 freed_role role.Rethrown = role.Thrown
 freed_role role.Handled = role.HandledInside
+freed_role role.Undoing = role.UndoingInside
 freed_role r = r
 
--- around a scope that handles the fault
+-- around a scope that handles the fault: where the loop in it is ended by ExprFault, that stays so
 abbrev pub handled_role : Role → Role
 handled_role role.Thrown = role.Caught
 handled_role role.ThrownInLoop = role.Caught
-handled_role role.Reckoned = role.ReckonedSafely
-handled_role role.ReckonedInLoop = role.ReckonedSafely
+handled_role role.Failing = role.FailingSafely
 handled_role r = freed_role r
 
 -- ---- mentions
@@ -111,14 +129,26 @@ sets variable ms = list_any (λ (m : Mentioned). is_set m.role && bytes_eq m.nam
 abbrev pub faults : Seen → Bool
 faults ms = list_any (λ (m : Mentioned). is_free m.role) ms
 
--- the fault by which a scope is left there: that of arithmetic, or the one of this name
-abbrev pub fault_of : Mentioned → List ℕ
-fault_of m = if is_reckoned m.role then codes "ExprFault" else m.name.text
+-- a message is taken
+abbrev pub takes : Seen → Bool
+takes ms = list_any (λ (m : Mentioned). is_taken m.role) ms
+
+-- a handler under `this` is put up in the nearest scope
+abbrev pub undoes : Seen → Bool
+undoes ms = list_any (λ (m : Mentioned). is_undoing m.role) ms
 
 -- around a scope with handlers for the faults of these names
 abbrev pub out_of_scope : List (List ℕ) → Mentioned → Mentioned
-out_of_scope names m = mention (if is_in (fault_of m) names then handled_role m.role else freed_role m.role) m.name
+out_of_scope names m = mention (if is_in m.name.text names then handled_role m.role else freed_role m.role) m.name
 
 -- a scope of these mentions, seen from around it
 abbrev pub around_scope : Seen → Seen
 around_scope body = map (out_of_scope (names_in is_handled body)) body
+
+-- a scope, by whether it has a handler under `this`
+abbrev pub scope_role : Seen → Role
+scope_role body = if undoes body then role.Undone else role.Scope
+
+-- a `while` of these mentions, seen from around it
+abbrev pub around_while : Seen → Seen
+around_while inside = if takes inside then map (in_role turned_role) inside else map (in_role looped_role) inside

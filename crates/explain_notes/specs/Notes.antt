@@ -7,7 +7,7 @@ use Rattle.jolie_ast.specs.declared.service.Service.{Service}
 use Rattle.jolie_ast.specs.declared.tree.Definition.{Definition}
 use Rattle.check_base.specs.Files.{Operation, execution_of, interfaces_of, is_concurrent, operations_in, services_of}
 use Rattle.explain_notes.specs.Mentions.{Mentioned, Seen, names_in}
-use Rattle.explain_notes.specs.Services.{service_mentions}
+use Rattle.explain_notes.specs.Services.{own_sockets, service_mentions}
 use Rattle.explain_notes.specs.declared.kind.NoteKind.{NoteKind}
 use Rattle.explain_notes.specs.declared.kind.NoteKind.TheVariants as kind
 use Rattle.explain_notes.specs.Answers.{content_names}
@@ -21,6 +21,17 @@ pub record Noted : Type 0 where
 -- a note of a name
 abbrev pub note : NoteKind → Name → Noted
 note k n = record { kind = k; name = n }
+
+-- what the definitions of a file say: the faults that its operations throw, the operations that are content with void,
+-- and the sockets at which its services are called
+pub record Told : Type 0 where
+  pub faults : List (List ℕ)
+  pub content : List (List ℕ)
+  pub sockets : List (List ℕ)
+
+-- told by these
+abbrev pub told : List (List ℕ) → List (List ℕ) → List (List ℕ) → Told
+told faults content sockets = record { faults = faults; content = content; sockets = sockets }
 
 -- ---- the notes of a kind
 
@@ -48,10 +59,11 @@ unanswered_after content known asks (m ∷ ms) =
     else unanswered_after content known asks ms
 
 -- the notes of a kind, by the texts that meet its names and by the operations that are content with void: where values
--- are cut it is noted of names that are met, otherwise of those that are not
+-- are cut, and of a socket of its own, it is noted of names that are met, otherwise of those that are not
 abbrev pub notes_by : NoteKind → List (List ℕ) → List (List ℕ) → Seen → List Noted
 notes_by kind.TreeCut met content ms = notes_known kind.TreeCut met ms
 notes_by kind.LiteralCut met content ms = notes_known kind.LiteralCut met ms
+notes_by kind.OwnSocket met content ms = notes_known kind.OwnSocket met ms
 notes_by kind.Unanswered met content ms = unanswered_after content met false ms
 notes_by k met content ms = notes_after k met ms
 
@@ -75,44 +87,42 @@ standard_faults =
     codes "IOException" ∷ codes "TypeMismatch" ∷ codes "CorrelationError" ∷ codes "Refused" ∷ codes "UndeclaredFault"
     ∷ codes "ExprFault" ∷ codes "HandlerTooLarge" ∷ codes "StoreTooLarge" ∷ []
 
--- the texts that meet a name of a kind in a file with these faults, whatever is mentioned: `main` is the outermost
+-- the texts that meet a name of a kind in a file of which this is told, whatever is mentioned: `main` is the outermost
 -- scope, whose faults stand below its name
-abbrev pub texts_met : List (List ℕ) → NoteKind → List (List ℕ)
-texts_met declared kind.Uncaught = declared
-texts_met declared kind.UncaughtInLoop = declared
-texts_met declared kind.Unthrown = declared ++ standard_faults
-texts_met declared kind.Unset = codes "main" ∷ []
-texts_met declared k = []
+abbrev pub texts_met : Told → NoteKind → List (List ℕ)
+texts_met t kind.Uncaught = t.faults
+texts_met t kind.UncaughtInLoop = t.faults
+texts_met t kind.Unthrown = t.faults ++ standard_faults
+texts_met t kind.OwnSocket = t.sockets
+texts_met t kind.Unset = codes "main" ∷ []
+texts_met t k = []
 
--- the notes of a kind where this is seen, in a file whose operations have these faults, and those of the other names
--- are content with void
-abbrev pub notes_for : List (List ℕ) → List (List ℕ) → Seen → NoteKind → List Noted
-notes_for declared content ms k = notes_by k (texts_met declared k ++ names_in (is_met k) ms) content ms
+-- the notes of a kind where this is seen, in a file of which this is told
+abbrev pub notes_for : Told → Seen → NoteKind → List Noted
+notes_for t ms k = notes_by k (texts_met t k ++ names_in (is_met k) ms) t.content ms
 
 -- ---- services and files
 
 -- the kinds that are noted of each service, in their order
 abbrev pub kinds_always : List NoteKind
 kinds_always =
-    kind.Uncaught ∷ kind.Unthrown ∷ kind.NoScope ∷ kind.Unsent ∷ kind.Unset ∷ kind.Unread ∷ kind.TreeCut
-    ∷ kind.LiteralCut ∷ kind.Unanswered ∷ []
+    kind.Uncaught ∷ kind.Unthrown ∷ kind.NothingUndone ∷ kind.Unsent ∷ kind.OwnSocket ∷ kind.Unset ∷ kind.Unread
+    ∷ kind.TreeCut ∷ kind.LiteralCut ∷ kind.Unanswered ∷ []
 
 -- the kinds that are noted of a service by how its sessions are run
 abbrev pub kinds_by_sessions : Service → List NoteKind
 kinds_by_sessions s =
-    if is_concurrent (execution_of s) then kind.UncaughtInLoop ∷ []
-    else kind.EndsService ∷ kind.EndsByArithmetic ∷ kind.Forgotten ∷ []
+    if is_concurrent (execution_of s) then kind.UncaughtInLoop ∷ kind.EndsLoop ∷ []
+    else kind.EndsService ∷ kind.EndsLoop ∷ kind.Forgotten ∷ []
 
 -- what is noted of a service: of one kind after the other
-abbrev pub service_notes : List (List ℕ) → List (List ℕ) → Service → List Noted
-service_notes declared content s =
-    flat_map (notes_for declared content (service_mentions s)) (kinds_always ++ kinds_by_sessions s)
+abbrev pub service_notes : Told → Service → List Noted
+service_notes t s = flat_map (notes_for t (service_mentions s)) (kinds_always ++ kinds_by_sessions s)
 
--- what is noted of a file whose operations have these faults, and those of the other names are content with void: of
--- one service after the other
-abbrev pub notes_in : List (List ℕ) → List (List ℕ) → List Definition → List Noted
-notes_in declared content file = flat_map (service_notes declared content) (services_of file)
+-- what is noted of a file of which this is told: of one service after the other
+abbrev pub notes_in : Told → List Definition → List Noted
+notes_in t file = flat_map (service_notes t) (services_of file)
 
 -- what is noted of a file
 abbrev pub notes_of : List Definition → List Noted
-notes_of file = notes_in (declared_faults file) (content_names file) file
+notes_of file = notes_in (told (declared_faults file) (content_names file) (own_sockets file)) file

@@ -5,30 +5,31 @@ use Rattle.jolie_ast.specs.declared.process.Otherwise.TheOpen.{Input-F, Process-
 use Rattle.jolie_ast.specs.declared.process.Block.{Block}
 use Rattle.jolie_ast.specs.Folds.{ProcessResults, ProcessFold, level, all_are, else_or, fold_block}
 use Rattle.explain_notes.specs.declared.role.Role.TheVariants as role
-use Rattle.explain_notes.specs.Mentions.{Seen, mention, around_scope, in_role, kept_role, looped_role, turned_role}
+use Rattle.explain_notes.specs.Mentions.{Seen, mention, around_scope, around_while, in_role, kept_role, looped_role}
+use Rattle.explain_notes.specs.Mentions.{scope_role}
 use Rattle.explain_notes.specs.Expressions.{expr_mentions, joined, path_walked}
 use Rattle.explain_notes.specs.Statements.{assigned_mentions, begun_mentions, handler_mentions_of, if_written}
 use Rattle.explain_notes.specs.Statements.{received_mentions, request_mentions, stepped_mentions}
 
--- what is made of each part of a process: of an input what it mentions before what stands behind it, of a reply part
+-- what is made of each part of a process: of an input what it mentions before what stands after it, of a reply part
 -- what a request with it mentions, by its operation and what it takes
 abbrev pub process_results : ProcessResults
 process_results = record (all_are Seen) { input = Seen → Seen; reply = Name → Seen → Seen }
 
--- one level of a process, with what its parts mention; nothing stands behind an input that stands alone
+-- one level of a process, with what its parts mention; nothing stands after an input that stands alone
 abbrev pub process_level : level process_results Process-F → Seen
 process_level (Process-F.Assign path assignment) = assigned_mentions path assignment
 process_level (Process-F.Undef at path) = (path_walked path).indices
 process_level (Process-F.Correlate at variable value) = expr_mentions value
 process_level (Process-F.If conditional) = conditional
-process_level (Process-F.While at test body) = expr_mentions test ++ map (in_role turned_role) body
+process_level (Process-F.While at test body) = around_while (expr_mentions test ++ body)
 process_level (Process-F.For at path first test stepped step body) =
     begun_mentions path first test ++ (stepped_mentions stepped step ++ map (in_role looped_role) body)
 process_level (Process-F.Input input) = input []
 process_level (Process-F.Choice at branches) = joined branches
 process_level (Process-F.Output operation port value answer) =
     mention role.SentTo port ∷ (if_written expr_mentions value ++ unwrap_or answer [])
-process_level (Process-F.Scope at name body) = mention role.Scope name ∷ around_scope body
+process_level (Process-F.Scope at name body) = mention (scope_role body) name ∷ around_scope body
 process_level (Process-F.Install at handlers) = joined handlers
 process_level (Process-F.Throw at fault value) = mention role.Thrown fault ∷ if_written expr_mentions value
 process_level (Process-F.Compensate at scope) = mention role.Compensated scope ∷ []
@@ -37,11 +38,11 @@ process_level (Process-F.Sequence statements) = joined statements
 process_level (Process-F.Parallel members) = joined members
 process_level _ = []
 
--- one level of an input, with what stands behind it
+-- one level of an input, with what stands after it
 abbrev pub input_level : level process_results Input-F → Seen → Seen
 input_level i after = elim i.reply [
-  | None ↦ received_mentions i.request ++ map (in_role kept_role) after
-  | Some reply ↦ reply i.operation (received_mentions i.request) ++ after
+  | None ↦ mention role.Taken i.operation ∷ (received_mentions i.request ++ map (in_role kept_role) after)
+  | Some reply ↦ mention role.Taken i.operation ∷ (reply i.operation (received_mentions i.request) ++ after)
 ]
 
 -- what a part mentions, from what the parts in it mention: an input before what comes after

@@ -1,13 +1,11 @@
 -- What the parts of a statement mention.
 use Rattle.std.specs.Prelude.{List, [], ◌∷◌, ◌++◌, map, Option, Some, None, option_map, unwrap_or}
-use Rattle.std.specs.Prelude.{Bool, true, false, not, if◌then◌else◌, ◌||◌}
-use Rattle.std.specs.List.{list_any}
+use Rattle.std.specs.Prelude.{true, codes, if◌then◌else◌, ◌||◌}
 use Rattle.jolie_ast.specs.declared.name.Name.{Name}
 use Rattle.jolie_ast.specs.declared.expression.Expr.{Expr, out-Expr}
 use Rattle.jolie_ast.specs.declared.expression.ExprForm.{out-ExprForm}
 use Rattle.jolie_ast.specs.declared.expression.ExprForm.TheOpen.{ExprForm-F}
 use Rattle.jolie_ast.specs.declared.expression.Path.{Path, out-Path}
-use Rattle.jolie_ast.specs.declared.expression.Term.{Term, out-Term}
 use Rattle.jolie_ast.specs.declared.expression.Step.{Step, out-Step}
 use Rattle.jolie_ast.specs.declared.process.Assignment.{Assignment}
 use Rattle.jolie_ast.specs.declared.process.Assignment.TheVariants as assignment
@@ -17,7 +15,7 @@ use Rattle.jolie_ast.specs.declared.process.HandlerKey.{HandlerKey}
 use Rattle.jolie_ast.specs.declared.process.HandlerKey.TheVariants as key
 use Rattle.explain_notes.specs.declared.role.Role.{Role}
 use Rattle.explain_notes.specs.declared.role.Role.TheVariants as role
-use Rattle.explain_notes.specs.Mentions.{Seen, mention, faults, in_role, in_role_of, sets}
+use Rattle.explain_notes.specs.Mentions.{Seen, mention, word, fails_at, faults, in_role, in_role_of, sets}
 use Rattle.explain_notes.specs.Mentions.{caught_role, filled_role, rethrown_role}
 use Rattle.explain_notes.specs.Expressions.{expr_mentions, path_mentions}
 
@@ -46,50 +44,29 @@ received_mentions path = if_written (target_mentions role.Received) path
 
 -- ---- assignments
 
--- a path on the right side of `=`, by what stands behind its variable
+-- a path on the right side of `=`, by what stands after its variable
 abbrev pub taken_role : List Step → Role
 taken_role [] = role.RootTaken
 taken_role (s ∷ ss) = role.FieldRead
 
--- a text in quotes
-abbrev pub is_text : Expr → Bool
-is_text value = elim (out-ExprForm (out-Expr value).form) [ ExprForm-F.Str text ↦ true | _ ↦ false ]
-
--- an operand behind the first is a text in quotes
-abbrev pub adds_text : Term → Bool
-adds_text t = is_text (out-Term t).operand
-
--- an operand of a sum is a text in quotes, so that it puts texts together
-abbrev pub joins_text : Expr → List Term → Bool
-joins_text first rest = is_text first || list_any adds_text rest
-
--- arithmetic, which may fail: a product, or a sum without a text in quotes
-abbrev pub reckons : Expr → Bool
-reckons value = elim (out-ExprForm (out-Expr value).form) [
-  | ExprForm-F.Product first rest ↦ true
-  | ExprForm-F.Sum first rest ↦ not (joins_text first rest)
-  | _ ↦ false
-]
-
--- a value that is no path and no literal, behind the variable that it sets
-abbrev pub worked_mentions : Name → Expr → Seen
-worked_mentions variable value =
-    if reckons value then mention role.Reckoned variable ∷ expr_mentions value else expr_mentions value
-
--- the right side of `=`, behind this variable
+-- the right side of `=`, after this variable
 abbrev pub root_mentions : Name → Expr → Seen
 root_mentions variable value = elim (out-ExprForm (out-Expr value).form) [
   | ExprForm-F.Path path ↦ path_mentions (taken_role (out-Path path).rest) path
   | ExprForm-F.Literal members ↦ where_some members role.Flattened variable ++ expr_mentions value
-  | _ ↦ worked_mentions variable value
+  | _ ↦ expr_mentions value
 ]
+
+-- `++` and `--`, which are a sum, at the place of this variable
+abbrev pub count_mentions : Name → Seen
+count_mentions variable = fails_at true variable.at
 
 -- a path and what is done to it
 abbrev pub assigned_mentions : Path → Assignment → Seen
 assigned_mentions path (assignment.Root value) =
     target_mentions role.Set path ++ root_mentions (variable_of path) value
 assigned_mentions path (assignment.Copy value) = target_mentions role.Set path ++ expr_mentions value
-assigned_mentions path (assignment.Count count) = target_mentions role.Set path
+assigned_mentions path (assignment.Count count) = target_mentions role.Set path ++ count_mentions (variable_of path)
 
 -- what a `for` begins with, and its test
 abbrev pub begun_mentions : Path → Expr → Expr → Seen
@@ -98,13 +75,13 @@ begun_mentions path first test = target_mentions role.Set path ++ (expr_mentions
 -- a path and what the last part of a `for` does to it
 abbrev pub stepped_mentions : Path → ForStep → Seen
 stepped_mentions path (for_step.Root value) = target_mentions role.Set path ++ expr_mentions value
-stepped_mentions path (for_step.Count count) = target_mentions role.Set path
+stepped_mentions path (for_step.Count count) = target_mentions role.Set path ++ count_mentions (variable_of path)
 
 -- ---- handlers and requests
 
 -- a handler of these mentions
 abbrev pub handler_mentions_of : HandlerKey → Seen → Seen
-handler_mentions_of (key.This at) body = map (in_role caught_role) body
+handler_mentions_of (key.This at) body = mention role.Undoing (word at (codes "this")) ∷ map (in_role caught_role) body
 handler_mentions_of (key.Named fault) body = mention role.Handled fault ∷ map (in_role_of fault rethrown_role) body
 
 -- the role of the variable that a request is answered by, with what the request takes and does: a body that a fault may

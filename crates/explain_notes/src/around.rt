@@ -15,7 +15,7 @@ impl<'a> Mentions<'a> {
         ensures { OnOk result (self.new ≡ self.old ++ inner.now) }
     {
         for mention in inner.as_slice() {
-            self.add(mention.role(), mention.name())?;
+            self.again(mention.role(), mention)?;
         }
         Ok(())
     }
@@ -25,27 +25,38 @@ impl<'a> Mentions<'a> {
         ensures { OnOk result (self.new ≡ self.old ++ map (spec.in_role spec.looped_role) inner.now) }
     {
         for mention in inner.as_slice() {
-            self.add(mention.role().in_loop(), mention.name())?;
+            self.again(mention.role().in_loop(), mention)?;
         }
         Ok(())
     }
 
     /// Adds what stands in a `while`.
-    pub(crate) fn add_turned(&mut self, inner: &Mentions<'a>) -> Result<(), AllocError>
+    pub(crate) fn add_while(&mut self, inner: &Mentions<'a>) -> Result<(), AllocError>
+        ensures { OnOk result (self.new ≡ self.old ++ spec.around_while inner.now) }
+    {
+        if inner.takes() {
+            self.add_turned(inner)
+        } else {
+            self.add_looped(inner)
+        }
+    }
+
+    /// Adds what stands in a `while` that takes messages.
+    fn add_turned(&mut self, inner: &Mentions<'a>) -> Result<(), AllocError>
         ensures { OnOk result (self.new ≡ self.old ++ map (spec.in_role spec.turned_role) inner.now) }
     {
         for mention in inner.as_slice() {
-            self.add(mention.role().in_while(), mention.name())?;
+            self.again(mention.role().in_turn(), mention)?;
         }
         Ok(())
     }
 
-    /// Adds what stands behind an input that is not answered.
+    /// Adds what stands after an input that is not answered.
     pub(crate) fn add_kept(&mut self, inner: &Mentions<'a>) -> Result<(), AllocError>
         ensures { OnOk result (self.new ≡ self.old ++ map (spec.in_role spec.kept_role) inner.now) }
     {
         for mention in inner.as_slice() {
-            self.add(mention.role().behind_one_way(), mention.name())?;
+            self.again(mention.role().after_one_way(), mention)?;
         }
         Ok(())
     }
@@ -55,7 +66,7 @@ impl<'a> Mentions<'a> {
         ensures { OnOk result (self.new ≡ self.old ++ map (spec.in_role spec.caught_role) inner.now) }
     {
         for mention in inner.as_slice() {
-            self.add(mention.role().caught(), mention.name())?;
+            self.again(mention.role().caught(), mention)?;
         }
         Ok(())
     }
@@ -69,7 +80,7 @@ impl<'a> Mentions<'a> {
         ensures { OnOk result (self.new ≡ self.old ++ map (spec.in_role_of fault.now spec.rethrown_role) inner.now) }
     {
         for mention in inner.as_slice() {
-            self.add(role_in_handler(mention, fault), mention.name())?;
+            self.again(role_in_handler(mention, fault), mention)?;
         }
         Ok(())
     }
@@ -83,7 +94,7 @@ impl<'a> Mentions<'a> {
         ensures { OnOk result (self.new ≡ self.old ++ map (spec.out_of_scope handled.now) inner.now) }
     {
         for mention in inner.as_slice() {
-            self.add(role_out_of_scope(mention, handled), mention.name())?;
+            self.again(role_out_of_scope(mention, handled), mention)?;
         }
         Ok(())
     }
@@ -97,7 +108,7 @@ impl<'a> Mentions<'a> {
         ensures { OnOk result (self.new ≡ self.old ++ map (spec.in_role_of variable.now spec.filled_role) inner.now) }
     {
         for mention in inner.as_slice() {
-            self.add(role_in_request(mention, variable), mention.name())?;
+            self.again(role_in_request(mention, variable), mention)?;
         }
         Ok(())
     }
@@ -109,7 +120,7 @@ impl<'a> Mentions<'a> {
         let mut names = Names::new(self.alloc());
         for mention in self.as_slice() {
             if mention.role().is_handled() {
-                names.add(mention.name().text.as_str())?;
+                names.add(mention.text())?;
             }
         }
         Ok(names)
@@ -121,6 +132,41 @@ impl<'a> Mentions<'a> {
     {
         for mention in self.as_slice() {
             if mention.role().is_free() {
+                return true;
+            }
+        }
+        false
+    }
+
+    /// Whether a message is taken.
+    pub(crate) fn takes(&self) -> bool
+        ensures { result ≡ spec.takes self.now }
+    {
+        for mention in self.as_slice() {
+            if mention.role().is_taken() {
+                return true;
+            }
+        }
+        false
+    }
+
+    /// The role of a scope around this.
+    pub(crate) fn scope_role(&self) -> Role
+        ensures { result ≡ spec.scope_role self.now }
+    {
+        if self.undoes() {
+            Role::Undone
+        } else {
+            Role::Scope
+        }
+    }
+
+    /// Whether a handler under `this` is put up in the nearest scope.
+    fn undoes(&self) -> bool
+        ensures { result ≡ spec.undoes self.now }
+    {
+        for mention in self.as_slice() {
+            if mention.role().is_undoing() {
                 return true;
             }
         }
@@ -157,21 +203,10 @@ fn role_out_of_scope(mention: &Mention<'_>, handled: &Names<'_>) -> Role
     ensures { spec.mention result mention.now.name ≡ spec.out_of_scope handled.now mention.now }
 {
     let role = mention.role();
-    if handled.has(fault_of(mention)) {
+    if handled.has(mention.text()) {
         role_handled(role)
     } else {
         role.freed()
-    }
-}
-
-/// The fault by which a scope is left there: that of arithmetic, or the one of this name.
-fn fault_of<'b>(mention: &'b Mention<'_>) -> &'b str
-    ensures { result.now ≡ spec.fault_of mention.now }
-{
-    if mention.role().is_reckoned() {
-        "ExprFault"
-    } else {
-        mention.name().text.as_str()
     }
 }
 
@@ -191,7 +226,7 @@ fn role_in_request(mention: &Mention<'_>, variable: &Name) -> Role
 fn is_named(mention: &Mention<'_>, name: &Name) -> bool
     ensures { result ≡ bytes_eq mention.now.name.text name.now.text }
 {
-    mention.name().text.as_str() == name.text.as_str()
+    mention.text() == name.text.as_str()
 }
 
 /// The role of a fault that its own handler throws.
@@ -208,8 +243,7 @@ fn role_handled(role: Role) -> Role
     match role {
         Role::Thrown => Role::Caught,
         Role::ThrownInLoop => Role::Caught,
-        Role::Reckoned => Role::ReckonedSafely,
-        Role::ReckonedInLoop => Role::ReckonedSafely,
+        Role::Failing => Role::FailingSafely,
         _ => role.freed(),
     }
 }

@@ -4,6 +4,7 @@ ghost use Rattle.std.specs.Prelude.{◌≡◌, [], ◌∷◌, ◌++◌, IfOk, On
 ghost use Rattle.check_base.specs.Files.{answering, group_operations, operations_in};
 ghost use Rattle.explain_notes.specs.Notes as spec;
 
+use crate::facts::Facts;
 use crate::kind::NoteKind;
 use check_base::{Names, interface_in};
 use jolie_ast::{Definition, Fault, Interface, OperationGroup, RequestResponse};
@@ -117,19 +118,20 @@ fn add_faults_of_statements(names: &mut Names<'_>) -> Result<(), AllocError>
     Ok(())
 }
 
-/// The texts that meet a name of a kind in a file with these faults, whatever is mentioned.
+/// The texts that meet a name of a kind in a file of these facts, whatever is mentioned.
 #[tactic(auto, using(crate::proofs::ByKind::met_by_no_text))]
 pub fn texts_met<'a>(
     alloc: Global,
     kind: NoteKind,
-    declared: &Names<'a>,
+    facts: &Facts<'a>,
 ) -> Result<Names<'a>, AllocError>
-    ensures { IfOk result (λ names. names ≡ spec.texts_met declared.now kind) }
+    ensures { IfOk result (λ names. names ≡ spec.texts_met facts.now kind) }
 {
     match kind {
-        NoteKind::Uncaught => same_names(alloc, declared),
-        NoteKind::UncaughtInLoop => same_names(alloc, declared),
-        NoteKind::Unthrown => all_faults(alloc, declared),
+        NoteKind::Uncaught => same_names(alloc, facts.faults()),
+        NoteKind::UncaughtInLoop => same_names(alloc, facts.faults()),
+        NoteKind::Unthrown => all_faults(alloc, facts.faults()),
+        NoteKind::OwnSocket => same_names(alloc, facts.sockets()),
         NoteKind::Unset => outermost(alloc),
         _ => Ok(Names::new(alloc)),
     }

@@ -13,19 +13,21 @@ pub enum NoteKind {
     UncaughtInLoop,
     /// A fault that nothing catches, in a loop of a service of one session.
     EndsService,
-    /// A sum or a product in a `while` of such a service, where no scope around it names the fault of arithmetic.
-    EndsByArithmetic,
+    /// An expression that may have no value, in a `while` that takes messages, of which no scope handles that.
+    EndsLoop,
     /// A handler of a fault that nothing throws.
     Unthrown,
-    /// A scope that is compensated and is not there.
-    NoScope,
+    /// A scope that is compensated, where no scope of this name has a handler under `this`.
+    NothingUndone,
     /// An output port that nothing is sent to.
     Unsent,
+    /// The location of an output port that is a socket at which the file's own services are called.
+    OwnSocket,
     /// A variable that is read and nowhere set.
     Unset,
     /// A variable that is set and nowhere read.
     Unread,
-    /// The same behind an input that is not answered, in a service of one session.
+    /// The same after an input that is not answered, in a service of one session.
     Forgotten,
     /// A variable on the right side of `=`, below which something is set or read.
     TreeCut,
@@ -44,10 +46,11 @@ impl NoteKind {
             NoteKind::Uncaught => matches!(role, Role::Thrown | Role::Rethrown),
             NoteKind::UncaughtInLoop => matches!(role, Role::ThrownInLoop),
             NoteKind::EndsService => matches!(role, Role::ThrownInLoop),
-            NoteKind::EndsByArithmetic => matches!(role, Role::ReckonedInLoop),
+            NoteKind::EndsLoop => matches!(role, Role::FailingInLoop),
             NoteKind::Unthrown => matches!(role, Role::Handled | Role::HandledInside),
-            NoteKind::NoScope => matches!(role, Role::Compensated),
+            NoteKind::NothingUndone => matches!(role, Role::Compensated),
             NoteKind::Unsent => matches!(role, Role::Port),
+            NoteKind::OwnSocket => matches!(role, Role::Dialled),
             NoteKind::Unset => matches!(role, Role::Read | Role::FieldRead | Role::RootTaken),
             NoteKind::Unread => matches!(role, Role::Set),
             NoteKind::Forgotten => matches!(role, Role::Kept),
@@ -65,10 +68,11 @@ impl NoteKind {
             NoteKind::Uncaught => false,
             NoteKind::UncaughtInLoop => false,
             NoteKind::EndsService => false,
-            NoteKind::EndsByArithmetic => false,
+            NoteKind::EndsLoop => false,
             NoteKind::Unthrown => throws(role),
-            NoteKind::NoScope => matches!(role, Role::Scope),
+            NoteKind::NothingUndone => matches!(role, Role::Undone),
             NoteKind::Unsent => matches!(role, Role::SentTo),
+            NoteKind::OwnSocket => false,
             NoteKind::Unset => gives_value(role),
             NoteKind::Unread => takes_value(role),
             NoteKind::Forgotten => takes_value(role) || matches!(role, Role::Set),
@@ -105,7 +109,7 @@ fn gives_value(role: Role) -> bool
 {
     matches!(
         role,
-        Role::Set | Role::Kept | Role::Received | Role::Filled | Role::Scope
+        Role::Set | Role::Kept | Role::Received | Role::Filled | Role::Scope | Role::Undone
     )
 }
 

@@ -8,6 +8,7 @@ mod around;
 mod content;
 mod declared;
 mod expressions;
+mod facts;
 mod kind;
 mod list;
 mod note;
@@ -16,6 +17,7 @@ mod role;
 mod rules;
 mod service;
 mod services;
+mod sockets;
 mod statements;
 
 pub use kind::NoteKind;

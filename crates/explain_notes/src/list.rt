@@ -1,5 +1,5 @@
 ghost use Rattle.std.specs.Prelude.{◌≡◌, [], ◌∷◌, ◌++◌, OnOk};
-ghost use Rattle.explain_notes.specs.Mentions.{mention};
+ghost use Rattle.explain_notes.specs.Mentions.{mention, word};
 
 use crate::role::Role;
 use jolie_ast::Name;
@@ -10,26 +10,27 @@ use std::marker::Model;
 #[derive(Drop)]
 pub struct Mention<'a> {
     role: Role,
-    name: &'a Name,
+    at: u32,
+    text: &'a str,
 }
 
 impl<'a> Model for Mention<'a> {
     ghost use Rattle.std.specs.Coded.{codes};
-    ghost use Rattle.jolie_ast.specs.contracts.name.Name as word;
-    ghost use Rattle.explain_notes.specs.Mentions.{Mentioned, mention};
+    ghost use Rattle.jolie_ast.specs.contracts.name.Name as name;
+    ghost use Rattle.explain_notes.specs.Mentions.{Mentioned, mention, word};
 
     ghost Value = { Mentioned };
 
-    ghost coded = { Prim.hlevel (codes, word.the_row.coded) };
+    ghost coded = { Prim.hlevel (codes, name.the_row.coded) };
 
-    ghost view = { λ m. mention m.role m.name.now };
+    ghost view = { λ m. mention m.role (word m.at m.text.now) };
 }
 
 impl<'a> Mention<'a> {
-    pub(crate) fn new(role: Role, name: &'a Name) -> Mention<'a>
-        ensures { result ≡ mention role name.now }
+    fn new(role: Role, at: u32, text: &'a str) -> Mention<'a>
+        ensures { result ≡ mention role (word at text.now) }
     {
-        Mention { role, name }
+        Mention { role, at, text }
     }
 
     pub fn role(&self) -> Role
@@ -38,10 +39,18 @@ impl<'a> Mention<'a> {
         self.role
     }
 
-    pub fn name(&self) -> &'a Name
-        ensures { result.now ≡ self.now.name }
+    /// The place of the name.
+    pub fn at(&self) -> u32
+        ensures { result ≡ self.now.name.at }
     {
-        self.name
+        self.at
+    }
+
+    /// The text of the name.
+    pub fn text(&self) -> &'a str
+        ensures { result.now ≡ self.now.name.text }
+    {
+        self.text
     }
 }
 
@@ -91,11 +100,25 @@ impl<'a> Mentions<'a> {
         self.list.as_slice()
     }
 
-    /// Adds a mention behind the others.
+    /// Adds a mention of a text at a place after the others.
+    pub(crate) fn put(&mut self, role: Role, at: u32, text: &'a str) -> Result<(), AllocError>
+        ensures { OnOk result (self.new ≡ self.old ++ mention role (word at text.now) ∷ []) }
+    {
+        self.list.push(Mention::new(role, at, text))?;
+        Ok(())
+    }
+
+    /// Adds a mention of a name.
     pub(crate) fn add(&mut self, role: Role, name: &'a Name) -> Result<(), AllocError>
         ensures { OnOk result (self.new ≡ self.old ++ mention role name.now ∷ []) }
     {
-        self.list.push(Mention::new(role, name))?;
-        Ok(())
+        self.put(role, name.at, name.text.as_str())
+    }
+
+    /// Adds what is mentioned elsewhere, in this role.
+    pub(crate) fn again(&mut self, role: Role, other: &Mention<'a>) -> Result<(), AllocError>
+        ensures { OnOk result (self.new ≡ self.old ++ mention role other.now.name ∷ []) }
+    {
+        self.put(role, other.at(), other.text())
     }
 }

@@ -2,11 +2,11 @@
 
 ghost use Rattle.std.specs.Prelude.{◌≡◌, [], ◌∷◌, ◌++◌, OnOk, flat_map, is_some, map};
 ghost use Rattle.explain_notes.specs.declared.role.Role.TheVariants as role;
-ghost use Rattle.explain_notes.specs.Mentions.{around_scope, in_role, kept_role, looped_role, mention, turned_role};
+ghost use Rattle.explain_notes.specs.Mentions.{around_scope, around_while, in_role, kept_role, looped_role, mention, scope_role};
 ghost use Rattle.explain_notes.specs.Expressions.{expr_mentions};
 ghost use Rattle.explain_notes.specs.Statements.{answered_role, begun_mentions, handler_mentions_of, if_written, received_mentions, request_mentions, stepped_mentions};
 ghost use Rattle.explain_notes.specs.Processes.{block_mentions};
-ghost use Rattle.explain_notes.specs.Parts.{after_input, answer_mentions, branch_mentions, handler_mentions, if_mentions, input_mentions, otherwise_mentions, process_mentions, reply_mentions};
+ghost use Rattle.explain_notes.specs.Parts.{after_input, answer_mentions, asked_mentions, branch_mentions, handler_mentions, if_mentions, input_mentions, otherwise_mentions, process_mentions, reply_mentions};
 
 use crate::list::Mentions;
 use crate::role::Role;
@@ -78,25 +78,16 @@ impl<'a> Mentions<'a> {
         }
     }
 
-    /// A loop with its test.
+    /// A `while` with its test.
     #[cycle(process)]
-    #[tactic(auto, using(crate::proofs::Lists::behind_two))]
     fn while_loop(&mut self, body: &'a Block, test: &'a Expr) -> Result<(), AllocError>
         ensures { OnOk result (self.new ≡ self.old
-            ++ (expr_mentions test.now ++ map (in_role turned_role) (block_mentions body.now))) }
-    {
-        self.expr(test)?;
-        self.turned(body)
-    }
-
-    /// What stands in a `while`.
-    #[cycle(process)]
-    fn turned(&mut self, body: &'a Block) -> Result<(), AllocError>
-        ensures { OnOk result (self.new ≡ self.old ++ map (in_role turned_role) (block_mentions body.now)) }
+            ++ around_while (expr_mentions test.now ++ block_mentions body.now)) }
     {
         let mut inner = self.inner();
+        inner.expr(test)?;
         inner.block(body)?;
-        self.add_turned(&inner)
+        self.add_while(&inner)
     }
 
     /// A `for` with what stands in its parentheses.
@@ -151,12 +142,12 @@ impl<'a> Mentions<'a> {
     #[cycle(process)]
     fn scope(&mut self, name: &'a Name, body: &'a Block) -> Result<(), AllocError>
         ensures { OnOk result (self.new ≡ self.old
-            ++ mention role.Scope name.now ∷ around_scope (block_mentions body.now)) }
+            ++ mention (scope_role (block_mentions body.now)) name.now ∷ around_scope (block_mentions body.now)) }
     {
         let mut inner = self.inner();
         inner.block(body)?;
         let handled = inner.handled()?;
-        self.add(Role::Scope, name)?;
+        self.add(inner.scope_role(), name)?;
         self.add_scoped(&handled, &inner)
     }
 
@@ -183,9 +174,18 @@ impl<'a> Mentions<'a> {
     }
 
     #[cycle(process)]
-    #[tactic(auto, using(crate::proofs::ProcessForms::input_is))]
+    #[tactic(auto, using(crate::proofs::ProcessForms::input_is, crate::proofs::Lists::behind_one))]
     fn input(&mut self, input: &'a Input) -> Result<(), AllocError>
         ensures { OnOk result (self.new ≡ self.old ++ input_mentions input.now []) }
+    {
+        self.add(Role::Taken, &input.operation)?;
+        self.asked(input)
+    }
+
+    /// What an input takes, by its reply part.
+    #[cycle(process)]
+    fn asked(&mut self, input: &'a Input) -> Result<(), AllocError>
+        ensures { OnOk result (self.new ≡ self.old ++ asked_mentions input.now) }
     {
         match &input.reply {
             Some(reply) => self.request(&input.operation, &input.request, reply),
@@ -230,7 +230,7 @@ impl<'a> Mentions<'a> {
         self.after(&branch.after, &branch.input.reply)
     }
 
-    /// What stands behind an input, by its reply part.
+    /// What stands after an input, by its reply part.
     #[cycle(process)]
     fn after(&mut self, after: &'a Block, reply: &Option<Reply>) -> Result<(), AllocError>
         ensures { OnOk result (self.new ≡ self.old ++ after_input (is_some reply.now) (block_mentions after.now)) }
@@ -241,7 +241,7 @@ impl<'a> Mentions<'a> {
         }
     }
 
-    /// What stands behind an input that is not answered.
+    /// What stands after an input that is not answered.
     #[cycle(process)]
     fn kept(&mut self, after: &'a Block) -> Result<(), AllocError>
         ensures { OnOk result (self.new ≡ self.old ++ map (in_role kept_role) (block_mentions after.now)) }
@@ -308,7 +308,10 @@ impl<'a> Mentions<'a> {
         ensures { OnOk result (self.new ≡ self.old ++ handler_mentions_of key.now inner.now) }
     {
         match key {
-            HandlerKey::This(_) => self.add_of_this(inner),
+            HandlerKey::This(at) => {
+                self.put(Role::Undoing, *at, "this")?;
+                self.add_of_this(inner)
+            }
             HandlerKey::Named(fault) => {
                 self.add(Role::Handled, fault)?;
                 self.add_of_handler(fault, inner)

@@ -12,7 +12,7 @@ pub enum Role {
     RootTaken,
     /// A variable that a statement sets, it or a field of it.
     Set,
-    /// The same, in the braces behind an input that is not answered.
+    /// The same, in the braces after an input that is not answered.
     Kept,
     /// A variable that takes a message or an answer, it or a field of it.
     Received,
@@ -22,24 +22,34 @@ pub enum Role {
     Branched,
     /// A variable that is set by `=` to a literal with members.
     Flattened,
-    /// A variable that `=` sets to a product, or to a sum without a text in quotes.
-    Reckoned,
-    /// The same in a `while`.
-    ReckonedInLoop,
-    /// The same where something ends its fault.
-    ReckonedSafely,
+    /// ExprFault, where an expression may have no value.
+    Failing,
+    /// The same in a `while` that takes messages, of which no scope handles it.
+    FailingInLoop,
+    /// The same where something ends it.
+    FailingSafely,
+    /// An operation whose message is taken.
+    Taken,
     /// An operation whose body sets a variable that is answered, or should.
     Asked,
     /// The variable that it answers, where its body sets it or a fault may leave the body.
     Answered,
     /// The variable that it answers, where its body does neither.
     LeftUnset,
-    /// A scope.
+    /// A scope without a handler under `this`.
     Scope,
+    /// A scope with one.
+    Undone,
+    /// A handler under `this` in the nearest scope.
+    Undoing,
+    /// A handler under `this` in a scope further inside.
+    UndoingInside,
     /// A scope that is compensated.
     Compensated,
     /// An output port.
     Port,
+    /// The location of an output port.
+    Dialled,
     /// A port that something is sent to.
     SentTo,
     /// A fault that is thrown.
@@ -78,11 +88,25 @@ impl Role {
         matches!(self, Role::Handled)
     }
 
-    /// Whether a sum or a product may fail there, and no scope around it handles that yet.
-    pub(crate) fn is_reckoned(self) -> bool
-        ensures { result ≡ spec.is_reckoned self }
+    /// Whether an expression may have no value there, and no scope around it handles that yet.
+    pub(crate) fn is_failing(self) -> bool
+        ensures { result ≡ spec.is_failing self }
     {
-        matches!(self, Role::Reckoned | Role::ReckonedInLoop)
+        matches!(self, Role::Failing | Role::FailingInLoop)
+    }
+
+    /// Whether the message of an operation is taken.
+    pub(crate) fn is_taken(self) -> bool
+        ensures { result ≡ spec.is_taken self }
+    {
+        matches!(self, Role::Taken)
+    }
+
+    /// Whether the nearest scope has a handler under `this`.
+    pub(crate) fn is_undoing(self) -> bool
+        ensures { result ≡ spec.is_undoing self }
+    {
+        matches!(self, Role::Undoing)
     }
 
     /// The role in a loop.
@@ -95,18 +119,18 @@ impl Role {
         }
     }
 
-    /// The role in a `while`.
-    pub(crate) fn in_while(self) -> Role
+    /// The role in a `while` that takes messages.
+    pub(crate) fn in_turn(self) -> Role
         ensures { result ≡ spec.turned_role self }
     {
         match self {
-            Role::Reckoned => Role::ReckonedInLoop,
+            Role::Failing => Role::FailingInLoop,
             _ => self.in_loop(),
         }
     }
 
-    /// The role behind an input that is not answered.
-    pub(crate) fn behind_one_way(self) -> Role
+    /// The role after an input that is not answered.
+    pub(crate) fn after_one_way(self) -> Role
         ensures { result ≡ spec.kept_role self }
     {
         match self {
@@ -122,8 +146,8 @@ impl Role {
         if self.is_free() {
             return Role::Caught;
         }
-        if self.is_reckoned() {
-            Role::ReckonedSafely
+        if self.is_failing() {
+            Role::FailingSafely
         } else {
             self
         }
@@ -136,6 +160,7 @@ impl Role {
         match self {
             Role::Rethrown => Role::Thrown,
             Role::Handled => Role::HandledInside,
+            Role::Undoing => Role::UndoingInside,
             _ => self,
         }
     }

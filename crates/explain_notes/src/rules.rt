@@ -6,28 +6,26 @@ ghost use Rattle.explain_notes.specs.Notes as spec;
 ghost use Rattle.explain_notes.specs.Rules.{is_met};
 
 use crate::declared::texts_met;
+use crate::facts::Facts;
 use crate::kind::{NoteKind, is_asked};
 use crate::list::Mention;
 use crate::note::Note;
 use check_base::Names;
 use std::alloc::{AllocError, Global};
 
-/// The notes of a kind, in a file whose operations have these faults, and those of the other names are content with
-/// void.
+/// The notes of a kind, in a file of these facts.
 pub fn add_notes<'a>(
     alloc: Global,
     kind: NoteKind,
-    declared: &Names<'a>,
-    content: &Names<'a>,
+    facts: &Facts<'a>,
     mentions: &[Mention<'a>],
     notes: &mut Vec<Note<'a>>,
 ) -> Result<(), AllocError>
-    ensures { OnOk result (notes.new.items ≡ notes.old.items
-        ++ spec.notes_for declared.now content.now mentions.now kind) }
+    ensures { OnOk result (notes.new.items ≡ notes.old.items ++ spec.notes_for facts.now mentions.now kind) }
 {
-    let mut met = texts_met(alloc, kind, declared)?;
+    let mut met = texts_met(alloc, kind, facts)?;
     add_met(kind, mentions, &mut met)?;
-    add_by(kind, &mut met, content, mentions, notes)
+    add_by(kind, &mut met, facts.content(), mentions, notes)
 }
 
 /// The notes of a kind, by the texts that meet its names.
@@ -44,6 +42,7 @@ fn add_by<'a>(
     match kind {
         NoteKind::TreeCut => add_known(kind, met, mentions, notes),
         NoteKind::LiteralCut => add_known(kind, met, mentions, notes),
+        NoteKind::OwnSocket => add_known(kind, met, mentions, notes),
         NoteKind::Unanswered => add_unanswered_after(content, met, mentions, notes),
         _ => add_unknown(kind, met, mentions, notes),
     }
@@ -59,9 +58,8 @@ fn add_known<'a>(
     ensures { OnOk result (notes.new.items ≡ notes.old.items ++ spec.notes_known kind known.now mentions.now) }
 {
     for mention in mentions {
-        let name = mention.name();
-        if kind.is_of(mention.role()) && known.has(name.text.as_str()) {
-            notes.push(Note::new(kind, name))?;
+        if kind.is_of(mention.role()) && known.has(mention.text()) {
+            notes.push(Note::new(kind, mention))?;
         }
     }
     Ok(())
@@ -77,7 +75,7 @@ fn add_met<'a>(
 {
     for mention in mentions {
         if kind.is_met_by(mention.role()) {
-            known.add(mention.name().text.as_str())?;
+            known.add(mention.text())?;
         }
     }
     Ok(())
@@ -93,10 +91,9 @@ fn add_unknown<'a>(
     ensures { OnOk result (notes.new.items ≡ notes.old.items ++ spec.notes_after kind known.old mentions.now) }
 {
     for mention in mentions {
-        let name = mention.name();
-        if kind.is_of(mention.role()) && !known.has(name.text.as_str()) {
-            known.add(name.text.as_str())?;
-            notes.push(Note::new(kind, name))?;
+        if kind.is_of(mention.role()) && !known.has(mention.text()) {
+            known.add(mention.text())?;
+            notes.push(Note::new(kind, mention))?;
         }
     }
     Ok(())
@@ -114,14 +111,10 @@ fn add_unanswered_after<'a>(
 {
     let mut asks = false;
     for mention in mentions {
-        let name = mention.name();
         if is_asked(mention.role()) {
-            asks = !content.has(name.text.as_str());
-        } else if NoteKind::Unanswered.is_of(mention.role())
-            && asks
-            && !known.has(name.text.as_str())
-        {
-            notes.push(Note::new(NoteKind::Unanswered, name))?;
+            asks = !content.has(mention.text());
+        } else if NoteKind::Unanswered.is_of(mention.role()) && asks && !known.has(mention.text()) {
+            notes.push(Note::new(NoteKind::Unanswered, mention))?;
         }
     }
     Ok(())

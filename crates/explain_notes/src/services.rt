@@ -3,11 +3,11 @@
 ghost use Rattle.std.specs.Prelude.{◌≡◌, ◌++◌, IfOk, OnOk};
 ghost use Rattle.explain_notes.specs.Mentions.{around_scope};
 ghost use Rattle.explain_notes.specs.Processes.{block_mentions};
-ghost use Rattle.explain_notes.specs.Services.{clause_mentions, service_mentions};
+ghost use Rattle.explain_notes.specs.Services.{clause_mentions, port_mentions, service_mentions};
 
 use crate::list::Mentions;
 use crate::role::Role;
-use jolie_ast::{Block, Clause, Service};
+use jolie_ast::{Block, Clause, Port, Service};
 use std::alloc::{AllocError, Global};
 
 /// What a service mentions, in the order of its text, but that the variable a request is answered by stands before what
@@ -29,11 +29,20 @@ impl<'a> Mentions<'a> {
         match clause {
             Clause::Execution { .. } => Ok(()),
             Clause::InputPort(_) => Ok(()),
-            Clause::OutputPort(port) => self.add(Role::Port, &port.name),
+            Clause::OutputPort(port) => self.output_port(port),
             Clause::CorrelationSet { .. } => Ok(()),
             Clause::Init { body, .. } => self.block(body),
             Clause::Main { body, .. } => self.outermost(body),
         }
+    }
+
+    /// An output port: its name and its location.
+    #[tactic(auto, using(crate::proofs::Lists::behind_one))]
+    fn output_port(&mut self, port: &'a Port) -> Result<(), AllocError>
+        ensures { OnOk result (self.new ≡ self.old ++ port_mentions port.now) }
+    {
+        self.add(Role::Port, &port.name)?;
+        self.put(Role::Dialled, port.location.at, port.location.text.as_str())
     }
 
     /// What stands in `main`, which is the outermost scope.

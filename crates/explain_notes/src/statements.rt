@@ -1,14 +1,13 @@
 //! What the parts of a statement mention.
 
 ghost use Rattle.std.specs.Prelude.{◌≡◌, ◌++◌, OnOk};
-ghost use Rattle.std.specs.List.{list_any};
 ghost use Rattle.explain_notes.specs.declared.role.Role.TheVariants as roles;
 ghost use Rattle.explain_notes.specs.Expressions.{expr_mentions};
 ghost use Rattle.explain_notes.specs.Statements as spec;
 
 use crate::list::Mentions;
 use crate::role::Role;
-use jolie_ast::{Assignment, Expr, ExprForm, ForStep, Member, Name, Path, Step, Term};
+use jolie_ast::{Assignment, Expr, ExprForm, ForStep, Member, Name, Path, Step};
 use std::alloc::AllocError;
 
 impl<'a> Mentions<'a> {
@@ -51,7 +50,7 @@ impl<'a> Mentions<'a> {
         }
     }
 
-    /// The right side of `=`, behind a variable.
+    /// The right side of `=`, after a variable.
     #[tactic(auto, using(crate::proofs::Lists::behind_two))]
     fn root(&mut self, variable: &'a Name, value: &'a Expr) -> Result<(), AllocError>
         ensures { OnOk result (self.new ≡ self.old ++ spec.root_mentions variable.now value.now) }
@@ -62,20 +61,15 @@ impl<'a> Mentions<'a> {
                 self.flattened(members.as_slice(), variable)?;
                 self.expr(value)
             }
-            _ => self.worked(variable, value),
+            _ => self.expr(value),
         }
     }
 
-    /// A value that is no path and no literal, behind the variable that it sets.
-    #[tactic(auto, using(crate::proofs::Lists::behind_one))]
-    fn worked(&mut self, variable: &'a Name, value: &'a Expr) -> Result<(), AllocError>
-        ensures { OnOk result (self.new ≡ self.old ++ spec.worked_mentions variable.now value.now) }
+    /// A variable that `++` or `--` changes: this is a sum.
+    fn counted(&mut self, variable: &Name) -> Result<(), AllocError>
+        ensures { OnOk result (self.new ≡ self.old ++ spec.count_mentions variable.now) }
     {
-        if !reckons(value) {
-            return self.expr(value);
-        }
-        self.add(Role::Reckoned, variable)?;
-        self.expr(value)
+        self.failing(true, variable.at)
     }
 
     /// A variable that is set by `=` to a literal with these members.
@@ -101,7 +95,7 @@ impl<'a> Mentions<'a> {
         match assignment {
             Assignment::Root(value) => self.root(&path.first.name, value),
             Assignment::Copy(value) => self.expr(value),
-            Assignment::Count(_) => Ok(()),
+            Assignment::Count(_) => self.counted(&path.first.name),
         }
     }
 
@@ -128,51 +122,12 @@ impl<'a> Mentions<'a> {
         self.target(Role::Set, path)?;
         match step {
             ForStep::Root(value) => self.expr(value),
-            ForStep::Count(_) => Ok(()),
+            ForStep::Count(_) => self.counted(&path.first.name),
         }
     }
 }
 
-/// Arithmetic, which may fail: a product, or a sum without a text in quotes.
-fn reckons(value: &Expr) -> bool
-    ensures { result ≡ spec.reckons value.now }
-{
-    match value.form.get() {
-        ExprForm::Product { .. } => true,
-        ExprForm::Sum { first, rest } => !joins_text(first.get(), rest.as_slice()),
-        _ => false,
-    }
-}
-
-/// Whether an operand of a sum is a text in quotes, so that it puts texts together.
-fn joins_text(first: &Expr, rest: &[Term]) -> bool
-    ensures { result ≡ spec.joins_text first.now rest.now }
-{
-    is_text(first) || add_text(rest)
-}
-
-/// Whether one of the operands behind the first is a text in quotes.
-fn add_text(terms: &[Term]) -> bool
-    ensures { result ≡ list_any spec.adds_text terms.now }
-{
-    terms.iter().any(|term| adds_text(term))
-}
-
-/// Whether an operand behind the first is a text in quotes.
-fn adds_text(term: &Term) -> bool
-    ensures { result ≡ spec.adds_text term.now }
-{
-    is_text(&term.operand)
-}
-
-/// Whether a value is a text in quotes.
-fn is_text(value: &Expr) -> bool
-    ensures { result ≡ spec.is_text value.now }
-{
-    matches!(value.form.get(), ExprForm::Str(_))
-}
-
-/// The role of a path on the right side of `=`, by what stands behind its variable.
+/// The role of a path on the right side of `=`, by what stands after its variable.
 fn taken_role(rest: &[Step]) -> Role
     ensures { result ≡ spec.taken_role rest.now }
 {

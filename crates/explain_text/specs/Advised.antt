@@ -37,14 +37,20 @@ is_semicolon _ = false
 abbrev pub begins_statement : List ℕ → Bool
 begins_statement rest = begins is_letter rest && not (begins_with (codes "instanceof") rest)
 
+-- a word stands there with which a clause of a service begins, or a part of a port of another Jolie
+abbrev pub names_clause : List ℕ → Bool
+names_clause rest =
+    begins_with (codes "main") rest || begins_with (codes "execution") rest || begins_with (codes "inputPort") rest
+    || begins_with (codes "outputPort") rest || begins_with (codes "init") rest || begins_with (codes "Location") rest
+    || begins_with (codes "Protocol") rest || begins_with (codes "Interfaces") rest
+
 -- a word or sign stands there with which a file from elsewhere goes on
 abbrev pub is_elsewhere : List ℕ → Bool
 is_elsewhere rest =
     begins_with (codes "include") rest || begins_with (codes "from") rest || begins_with (codes "embed") rest
     || begins_with (codes "define") rest || begins_with (codes "constants") rest || begins_with (codes "in") rest
-    || begins_with (codes "csets") rest || begins_with (codes "main") rest || begins_with (codes "execution") rest
-    || begins_with (codes "Location") rest || begins_with (codes "Protocol") rest
-    || begins_with (codes "Interfaces") rest || starts_with nat_eq rest (codes "->")
+    || begins_with (codes "csets") rest || begins_with (codes "over") rest || starts_with nat_eq rest (codes "->")
+    || starts_with nat_eq rest (codes "#!") || names_clause rest
 
 -- the hint is `)`
 abbrev pub closes : Hint → Bool
@@ -70,7 +76,7 @@ abbrev pub opens : Hint → Bool
 opens hint.OpenParen = true
 opens _ = false
 
--- the hint is a clause of a service, or a part of a port behind its location
+-- the hint is a clause of a service, or a part of a port after its location
 abbrev pub is_clause : Hint → Bool
 is_clause hint.Clause = true
 is_clause hint.Protocol = true
@@ -82,7 +88,7 @@ abbrev pub is_interfaces : Hint → Bool
 is_interfaces hint.Interfaces = true
 is_interfaces _ = false
 
--- the hint is a type behind a colon
+-- the hint is a type after a colon
 abbrev pub is_type : Hint → Bool
 is_type hint.Type = true
 is_type _ = false
@@ -92,12 +98,32 @@ abbrev pub is_value : Hint → Bool
 is_value hint.Value = true
 is_value _ = false
 
--- `{` stands there: where a statement may end and `(` go on, behind a protocol, or where a type stands
+-- the hint is `:`
+abbrev pub is_colon : Hint → Bool
+is_colon hint.Colon = true
+is_colon _ = false
+
+-- the hint is an operator
+abbrev pub is_operator : Hint → Bool
+is_operator hint.Operator = true
+is_operator _ = false
+
+-- the hint is `{`
+abbrev pub is_brace : Hint → Bool
+is_brace hint.OpenBrace = true
+is_brace _ = false
+
+-- `{` may stand, and nothing else
+abbrev pub is_brace_alone : List Hint → Bool
+is_brace_alone hints = length hints == 1 && list_any is_brace hints
+
+-- `{` stands there: where a statement may end and `(` go on, after a protocol, where a type stands, or for a `:`
 abbrev pub advised_of_brace : List Hint → Option Advice
 advised_of_brace hints =
     if list_any is_semicolon hints && list_any opens hints then Some advice.Braces
     else if list_any is_interfaces hints then Some advice.Settings
     else if list_any is_type hints then Some advice.Root
+    else if list_any is_colon hints then Some advice.Colon
     else None
 
 -- `,` or `;` stands there
@@ -108,14 +134,31 @@ parts rest = starts_with nat_eq rest (codes ",") || starts_with nat_eq rest (cod
 abbrev pub advised_of_statement : List ℕ → Option Advice
 advised_of_statement rest = if begins_statement rest then Some advice.Separator else None
 
--- another token stands there: a sign between clauses, `void` for a value, a statement, or what is from elsewhere
+-- `(` or `@` stands there
+abbrev pub calls : List ℕ → Bool
+calls rest = starts_with nat_eq rest (codes "(") || starts_with nat_eq rest (codes "@")
+
+-- another token stands there, where no statement ends: what is from elsewhere, or one in the place of a `{`
+abbrev pub advised_of_rest : List ℕ → List Hint → Option Advice
+advised_of_rest rest hints =
+    if comes_from_elsewhere hints rest then Some advice.Elsewhere
+    else if is_brace_alone hints then Some advice.Block
+    else None
+
+-- a token stands there that is no sign between clauses and no `void`: after a value a call or `?`, or a statement
+abbrev pub advised_of_token : List ℕ → List Hint → Option Advice
+advised_of_token rest hints =
+    if calls rest && list_any is_operator hints then Some advice.Call
+    else if starts_with nat_eq rest (codes "?") && list_any is_operator hints then Some advice.Choice
+    else if list_any is_semicolon hints then advised_of_statement rest
+    else advised_of_rest rest hints
+
+-- another token stands there: a sign between clauses, `void` for a value, or a further one
 abbrev pub advised_of_other : List ℕ → List Hint → Option Advice
 advised_of_other rest hints =
     if parts rest && list_any is_clause hints then Some advice.Clauses
     else if begins_with (codes "void") rest && list_any is_value hints then Some advice.Void
-    else if list_any is_semicolon hints then advised_of_statement rest
-    else if comes_from_elsewhere hints rest then Some advice.Elsewhere
-    else None
+    else advised_of_token rest hints
 
 -- what is advised by the bytes from a place on and what may stand there, and by whether a dot stands before them
 abbrev pub advised_there : Bool → List ℕ → List Hint → Option Advice

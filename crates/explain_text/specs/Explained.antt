@@ -42,7 +42,7 @@ tagged_words r =
 
 -- ---- what helps
 
--- hints behind another: commas between, and "or" before the last
+-- hints after another: commas between, and "or" before the last
 abbrev pub further : List Hint → List ℕ
 further [] = []
 further (h ∷ []) = codes " or " ++ hint_words h

@@ -14,10 +14,13 @@ abbrev pub note_words : NoteKind → List ℕ
 note_words kind.Uncaught = codes "nothing catches this fault, and no `throws` names it"
 note_words kind.UncaughtInLoop = codes "nothing catches this fault, and no `throws` names it"
 note_words kind.EndsService = codes "nothing catches this fault: it ends the loop and the service"
-note_words kind.EndsByArithmetic = codes "nothing here names ExprFault: where this fails, the loop and the service end"
+note_words kind.EndsLoop =
+    codes "no scope of the loop handles ExprFault: where this or another expression has no value, the loop ends"
 note_words kind.Unthrown = codes "nothing throws the fault of this handler"
-note_words kind.NoScope = codes "no scope of this service has this name"
+note_words kind.NothingUndone = codes "no scope of this name has a handler under `this`: nothing is undone"
 note_words kind.Unsent = codes "nothing is sent to this port"
+note_words kind.OwnSocket =
+    codes "this file listens here itself and can't take its own call: give that service a `local://` port too"
 note_words kind.Unset = codes "this variable is read, and nothing sets it"
 note_words kind.Unread = codes "this variable is set, and nothing reads it"
 note_words kind.Forgotten = codes "this variable is set, and nothing reads it"

@@ -53,7 +53,7 @@ kind_rule rest =
 -- the rule of messages and their sets, by what stands at the place: a use of a variable, a service, or a type in a set
 abbrev pub set_rule : List ℕ → List ℕ
 set_rule rest =
-    if begins_with (codes "csets") rest then codes "behind `csets.` stands a variable of a set of the service"
+    if begins_with (codes "csets") rest then codes "after `csets.` stands a variable of a set of the service"
     else if begins_with (codes "service") rest then
     codes "an operation of a concurrent service begins a session, or a set names fields of its type"
     else codes "a set that names a field of a type has one of it for each of its variables"
@@ -71,7 +71,7 @@ check_rule check.WrongKind rest = kind_rule rest
 check_rule check.Uncorrelated rest = set_rule rest
 check_rule check.TwoSets rest = codes "in a service a type stands in one set at most"
 check_rule check.CompOutsideHandler rest =
-    codes "`comp` stands in a handler of `install`, or of the brackets behind a call"
+    codes "`comp` stands in a handler of `install`, or of the brackets after a call"
 check_rule check.ChOutsideHandler rest = codes "`cH` stands in a handler, for the one that it replaces"
 check_rule check.NoStart rest =
     codes "a file has a service, a service a `main`, and that of a concurrent one begins with an input"
@@ -94,16 +94,16 @@ rule_of (cause.Check name) text at = check_rule name (drop at text)
 
 -- what is advised
 abbrev pub advice_words : Advice → List ℕ
-advice_words advice.Separator = codes "`;` stands between two statements, and none behind the last"
+advice_words advice.Separator = codes "`;` stands between two statements, and none after the last"
 advice_words advice.Handlers = codes "`,` stands between two handlers, and a handler is `Fault => what it does`"
 advice_words advice.Compound = codes "`y += 1` is `y = y + 1` here"
 advice_words advice.Elsewhere =
     codes "another Jolie has this; docs/language.md says under `A file from elsewhere` what to write"
 advice_words advice.Braces =
     codes "`with (t) { .a = 1 }` is `t.a = 1` here, `synchronized` is a single service, "
-    ++ codes "and behind an input without an answer stands `;`"
+    ++ codes "and after an input without an answer stands `;`"
 advice_words advice.Computed =
-    codes "a name behind `.` is written out: in place of `t.(k)` keep `t.key[i]` and `t.value[i]`, "
+    codes "a name after `.` is written out: in place of `t.(k)` keep `t.key[i]` and `t.value[i]`, "
     ++ codes "and look for k in a loop"
 advice_words advice.Clauses =
     codes "nothing stands between the clauses of a service or the parts of a port: no `,` and no `;`"
@@ -111,3 +111,11 @@ advice_words advice.Settings = codes "a protocol has no settings here: `protocol
 advice_words advice.Root = codes "a type begins with its root: `type T: void { .. }`, or `type T { .. }` without `:`"
 advice_words advice.Void = codes "`void` is a type and no value: `is_defined(x)` says whether x is there"
 advice_words advice.ByteOrderMark = codes "this is a byte order mark: save the file as UTF-8 without one"
+advice_words advice.Block =
+    codes "braces stand here: `if (x) { .. }`, `while (x) { .. }`, `[ go(x) ] { .. }`; a service has no parameters"
+advice_words advice.Colon =
+    codes "`:` stands between a word and what it is: `execution: concurrent`, `a: int`, `OneWay: go(int)`"
+advice_words advice.Call =
+    codes "a value calls nothing: `op@Port(x)(y)` puts the answer into y; there are `int(x)`, `long(x)`, "
+    ++ codes "`string(x)` and `is_defined(x)`"
+advice_words advice.Choice = codes "`y = a ? 1 : 2` is `if (a) { y = 1 } else { y = 2 }` here"

@@ -28,13 +28,13 @@ pub enum Advice {
     Compound,
     /// It is part of another Jolie.
     Elsewhere,
-    /// A `{` stands behind what may be an input.
+    /// A `{` stands after what may be an input.
     Braces,
-    /// A `(` stands behind a dot.
+    /// A `(` stands after a dot.
     Computed,
     /// A sign stands between clauses.
     Clauses,
-    /// A `{` stands behind a protocol.
+    /// A `{` stands after a protocol.
     Settings,
     /// A `{` stands where a type begins.
     Root,
@@ -42,6 +42,14 @@ pub enum Advice {
     Void,
     /// A byte order mark stands there.
     ByteOrderMark,
+    /// Another token stands where braces alone may.
+    Block,
+    /// A `{` stands where a `:` may.
+    Colon,
+    /// A `(` or `@` stands after a value.
+    Call,
+    /// A `?` stands after a value.
+    Choice,
 }
 
 impl Advice {
@@ -49,16 +57,16 @@ impl Advice {
         ensures { result.now ≡ advice_words self }
     {
         match self {
-            Advice::Separator => "`;` stands between two statements, and none behind the last",
+            Advice::Separator => "`;` stands between two statements, and none after the last",
             Advice::Handlers =>
                 "`,` stands between two handlers, and a handler is `Fault => what it does`",
             Advice::Compound => "`y += 1` is `y = y + 1` here",
             Advice::Elsewhere =>
                 "another Jolie has this; docs/language.md says under `A file from elsewhere` what to write",
             Advice::Braces =>
-                "`with (t) { .a = 1 }` is `t.a = 1` here, `synchronized` is a single service, and behind an input without an answer stands `;`",
+                "`with (t) { .a = 1 }` is `t.a = 1` here, `synchronized` is a single service, and after an input without an answer stands `;`",
             Advice::Computed =>
-                "a name behind `.` is written out: in place of `t.(k)` keep `t.key[i]` and `t.value[i]`, and look for k in a loop",
+                "a name after `.` is written out: in place of `t.(k)` keep `t.key[i]` and `t.value[i]`, and look for k in a loop",
             Advice::Clauses =>
                 "nothing stands between the clauses of a service or the parts of a port: no `,` and no `;`",
             Advice::Settings => "a protocol has no settings here: `protocol: jsonrpc` alone",
@@ -68,6 +76,13 @@ impl Advice {
                 "`void` is a type and no value: `is_defined(x)` says whether x is there",
             Advice::ByteOrderMark =>
                 "this is a byte order mark: save the file as UTF-8 without one",
+            Advice::Block =>
+                "braces stand here: `if (x) { .. }`, `while (x) { .. }`, `[ go(x) ] { .. }`; a service has no parameters",
+            Advice::Colon =>
+                "`:` stands between a word and what it is: `execution: concurrent`, `a: int`, `OneWay: go(int)`",
+            Advice::Call =>
+                "a value calls nothing: `op@Port(x)(y)` puts the answer into y; there are `int(x)`, `long(x)`, `string(x)` and `is_defined(x)`",
+            Advice::Choice => "`y = a ? 1 : 2` is `if (a) { y = 1 } else { y = 2 }` here",
         }
     }
 }
@@ -155,7 +170,8 @@ fn advised_there(behind_dot: bool, rest: &[u8], hints: &[Hint]) -> Option<Advice
     advised_of_other(rest, hints)
 }
 
-/// What is advised of a `{`: where a statement may end and `(` go on, behind a protocol, or where a type stands.
+/// What is advised of a `{`: where a statement may end and `(` go on, after a protocol, where a type stands, or for a
+/// `:`.
 fn advised_of_brace(hints: &[Hint]) -> Option<Advice>
     ensures { result ≡ spec.advised_of_brace hints.now }
 {
@@ -168,11 +184,13 @@ fn advised_of_brace(hints: &[Hint]) -> Option<Advice>
     if has_type(hints) {
         return Some(Advice::Root);
     }
+    if has_colon(hints) {
+        return Some(Advice::Colon);
+    }
     None
 }
 
-/// What is advised of another token: a sign between clauses, `void` for a value, a statement, or what is from
-/// elsewhere.
+/// What is advised of another token: a sign between clauses, `void` for a value, or a further one.
 fn advised_of_other(rest: &[u8], hints: &[Hint]) -> Option<Advice>
     ensures { result ≡ spec.advised_of_other rest.now hints.now }
 {
@@ -182,13 +200,93 @@ fn advised_of_other(rest: &[u8], hints: &[Hint]) -> Option<Advice>
     if begins_with("void", rest) && has_value(hints) {
         return Some(Advice::Void);
     }
+    advised_of_token(rest, hints)
+}
+
+/// What is advised of a token that is no sign between clauses and no `void`: after a value a call or `?`, or a
+/// statement.
+fn advised_of_token(rest: &[u8], hints: &[Hint]) -> Option<Advice>
+    ensures { result ≡ spec.advised_of_token rest.now hints.now }
+{
+    if calls(rest) && has_operator(hints) {
+        return Some(Advice::Call);
+    }
+    if rest.starts_with("?".as_bytes()) && has_operator(hints) {
+        return Some(Advice::Choice);
+    }
     if has_separator(hints) {
         return advised_of_statement(rest);
     }
+    advised_of_rest(rest, hints)
+}
+
+/// What is advised where no statement ends: of what is from elsewhere, or of a token in the place of a `{`.
+fn advised_of_rest(rest: &[u8], hints: &[Hint]) -> Option<Advice>
+    ensures { result ≡ spec.advised_of_rest rest.now hints.now }
+{
     if comes_from_elsewhere(hints, rest) {
         return Some(Advice::Elsewhere);
     }
+    if is_brace_alone(hints) {
+        return Some(Advice::Block);
+    }
     None
+}
+
+/// Whether `(` or `@` stands there.
+fn calls(rest: &[u8]) -> bool
+    ensures { result ≡ spec.calls rest.now }
+{
+    rest.starts_with("(".as_bytes()) || rest.starts_with("@".as_bytes())
+}
+
+/// Whether `{` may stand, and nothing else.
+fn is_brace_alone(hints: &[Hint]) -> bool
+    ensures { result ≡ spec.is_brace_alone hints.now }
+{
+    hints.len() == 1 && has_brace(hints)
+}
+
+/// Whether `{` is among hints.
+fn has_brace(hints: &[Hint]) -> bool
+    ensures { result ≡ list_any spec.is_brace hints.now }
+{
+    hints.iter().any(|hint| is_brace(*hint))
+}
+
+/// Whether a hint is `{`.
+fn is_brace(hint: Hint) -> bool
+    ensures { result ≡ spec.is_brace hint }
+{
+    matches!(hint, Hint::OpenBrace)
+}
+
+/// Whether `:` is among hints.
+fn has_colon(hints: &[Hint]) -> bool
+    ensures { result ≡ list_any spec.is_colon hints.now }
+{
+    hints.iter().any(|hint| is_colon(*hint))
+}
+
+/// Whether a hint is `:`.
+fn is_colon(hint: Hint) -> bool
+    ensures { result ≡ spec.is_colon hint }
+{
+    matches!(hint, Hint::Colon)
+}
+
+/// Whether an operator is among hints.
+fn has_operator(hints: &[Hint]) -> bool
+    ensures { result ≡ list_any spec.is_operator hints.now }
+{
+    hints.iter().any(|hint| is_operator(*hint))
+}
+
+/// Whether a hint is an operator.
+fn is_operator(hint: Hint) -> bool
+    ensures { result ≡ spec.is_operator hint }
+{
+    matches!(hint, Hint::Operator)
 }
 
 /// What is advised of a token before which `;` may stand.
@@ -244,14 +342,14 @@ fn opens(hint: Hint) -> bool
     matches!(hint, Hint::OpenParen)
 }
 
-/// Whether a clause of a service is among hints, or a part of a port behind its location.
+/// Whether a clause of a service is among hints, or a part of a port after its location.
 fn has_clause(hints: &[Hint]) -> bool
     ensures { result ≡ list_any spec.is_clause hints.now }
 {
     hints.iter().any(|hint| is_clause(*hint))
 }
 
-/// Whether a hint is a clause of a service, or a part of a port behind its location.
+/// Whether a hint is a clause of a service, or a part of a port after its location.
 fn is_clause(hint: Hint) -> bool
     ensures { result ≡ spec.is_clause hint }
 {
@@ -272,14 +370,14 @@ fn is_interfaces(hint: Hint) -> bool
     matches!(hint, Hint::Interfaces)
 }
 
-/// Whether a type behind a colon is among hints.
+/// Whether a type after a colon is among hints.
 fn has_type(hints: &[Hint]) -> bool
     ensures { result ≡ list_any spec.is_type hints.now }
 {
     hints.iter().any(|hint| is_type(*hint))
 }
 
-/// Whether a hint is a type behind a colon.
+/// Whether a hint is a type after a colon.
 fn is_type(hint: Hint) -> bool
     ensures { result ≡ spec.is_type hint }
 {
@@ -363,12 +461,24 @@ fn is_elsewhere(rest: &[u8]) -> bool
         || begins_with("constants", rest)
         || begins_with("in", rest)
         || begins_with("csets", rest)
-        || begins_with("main", rest)
+        || begins_with("over", rest)
+        || rest.starts_with("->".as_bytes())
+        || rest.starts_with("#!".as_bytes())
+        || names_clause(rest)
+}
+
+/// Whether a word stands there with which a clause of a service begins, or a part of a port of another Jolie.
+fn names_clause(rest: &[u8]) -> bool
+    ensures { result ≡ spec.names_clause rest.now }
+{
+    begins_with("main", rest)
         || begins_with("execution", rest)
+        || begins_with("inputPort", rest)
+        || begins_with("outputPort", rest)
+        || begins_with("init", rest)
         || begins_with("Location", rest)
         || begins_with("Protocol", rest)
         || begins_with("Interfaces", rest)
-        || rest.starts_with("->".as_bytes())
 }
 
 /// Whether bytes have tokens, of which the last is `;`.

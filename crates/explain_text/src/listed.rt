@@ -30,7 +30,7 @@ fn add_listed(bytes: &mut Vec<u8>, hints: &[Hint]) -> Result<(), AllocError>
     }
 }
 
-/// Adds hints behind another.
+/// Adds hints after another.
 #[tactic(auto, using(crate::proofs::Pieces::two_more, crate::proofs::Pieces::three_more))]
 fn add_further(bytes: &mut Vec<u8>, hints: &[Hint]) -> Result<(), AllocError>
     ensures { OnOk result (bytes.new.items ≡ bytes.old.items ++ spec.further hints.now) }

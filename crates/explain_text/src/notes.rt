@@ -101,12 +101,17 @@ fn words(kind: NoteKind) -> &'static str
         NoteKind::Uncaught => "nothing catches this fault, and no `throws` names it",
         NoteKind::UncaughtInLoop => "nothing catches this fault, and no `throws` names it",
         NoteKind::EndsService => "nothing catches this fault: it ends the loop and the service",
-        NoteKind::EndsByArithmetic => {
-            "nothing here names ExprFault: where this fails, the loop and the service end"
+        NoteKind::EndsLoop => {
+            "no scope of the loop handles ExprFault: where this or another expression has no value, the loop ends"
         }
         NoteKind::Unthrown => "nothing throws the fault of this handler",
-        NoteKind::NoScope => "no scope of this service has this name",
+        NoteKind::NothingUndone => {
+            "no scope of this name has a handler under `this`: nothing is undone"
+        }
         NoteKind::Unsent => "nothing is sent to this port",
+        NoteKind::OwnSocket => {
+            "this file listens here itself and can't take its own call: give that service a `local://` port too"
+        }
         NoteKind::Unset => "this variable is read, and nothing sets it",
         NoteKind::Unread => "this variable is set, and nothing reads it",
         NoteKind::Forgotten => "this variable is set, and nothing reads it",

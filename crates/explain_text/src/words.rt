@@ -78,7 +78,7 @@ fn rule_of_check(name: CheckName, rest: &[u8]) -> &'static str
         CheckName::Uncorrelated => rule_of_set(rest),
         CheckName::TwoSets => "in a service a type stands in one set at most",
         CheckName::CompOutsideHandler =>
-            "`comp` stands in a handler of `install`, or of the brackets behind a call",
+            "`comp` stands in a handler of `install`, or of the brackets after a call",
         CheckName::ChOutsideHandler => "`cH` stands in a handler, for the one that it replaces",
         CheckName::NoStart =>
             "a file has a service, a service a `main`, and that of a concurrent one begins with an input",
@@ -106,7 +106,7 @@ fn rule_of_set(rest: &[u8]) -> &'static str
     ensures { result.now ≡ spec.set_rule rest.now }
 {
     if begins_with("csets", rest) {
-        return "behind `csets.` stands a variable of a set of the service";
+        return "after `csets.` stands a variable of a set of the service";
     }
     if begins_with("service", rest) {
         return "an operation of a concurrent service begins a session, or a set names fields of its type";

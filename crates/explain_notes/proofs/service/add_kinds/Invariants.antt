@@ -4,4 +4,4 @@ use Rattle.explain_notes.proofs.service.add_kinds.Given as goal
 
 abbrev pub invariant-loop-kind : goal.invariant-loop-kind
 invariant-loop-kind l =
-    l.notes.items ≡ l.initial.notes.items ++ flat_map (notes_for l.declared l.content l.seen) (take l.kind-index l.kinds)
+    l.notes.items ≡ l.initial.notes.items ++ flat_map (notes_for l.facts l.seen) (take l.kind-index l.kinds)

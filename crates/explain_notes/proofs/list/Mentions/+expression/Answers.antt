@@ -1,7 +1,7 @@
 use Rattle.std.proofs.Common.{◌++◌, ap, sym, ◌∙◌}
+use Rattle.jolie_ast.specs.declared.expression.Step.{out-Step}
 use Rattle.explain_notes.specs.Expressions.{expr_mentions}
-use Rattle.explain_notes.specs.Parts.{factor_mentions, form_mentions, index_mentions, member_mentions, term_mentions}
-use Rattle.explain_notes.specs.Statements.{if_written}
+use Rattle.explain_notes.specs.Parts.{index_after, factor_mentions, form_mentions, index_mentions, member_mentions, term_mentions}
 use Rattle.explain_notes.proofs.Lists.{nothing_added, turn_of}
 use Rattle.explain_notes.proofs.ExpressionForms.{factor_is, int_is, long_is, member_is, step_is, term_is, text_is, truth_is}
 use Rattle.explain_notes.proofs.list.Mentions.+expression.Goals as goal
@@ -20,7 +20,7 @@ form-returns-in-Bool t c = nothing_added _ _ (ap form_mentions c.in-Bool.is ∙ 
 
 pub index-returns-in-None : goal.index-returns-in-None
 index-returns-in-None t c =
-    nothing_added _ _ (step_is c.args.step.now ∙ ap (λ i. if_written expr_mentions i) c.in-None.is)
+    nothing_added _ _ (step_is c.args.step.now ∙ ap (λ i. index_after (out-Step c.args.step.now).name.at i) c.in-None.is)
 
 pub exprs-loop-value-preserved : goal.exprs-loop-value-preserved
 exprs-loop-value-preserved t c =
