@@ -1,2 +1,4 @@
 pub mod Trials
 pub mod Kept
+pub mod Joined
+pub mod FewTokens

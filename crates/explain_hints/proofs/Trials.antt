@@ -1,5 +1,5 @@
 -- What `lex` and `parse` say of bytes, as whether these are a file or begin one.
-use Rattle.std.proofs.Common.{◌≡◌, ◌≢◌, ◌<◌, ◌≤◌, inl, inr, ℕ, List, [], ◌∷◌, ◌++◌, length, take, Result, Ok, Err, arith, sym, subst}
+use Rattle.std.proofs.Common.{◌≡◌, ◌≢◌, ◌<◌, ◌≤◌, inl, inr, ℕ, List, [], ◌∷◌, ◌++◌, length, Result, Ok, Err, arith, sym, subst}
 use Rattle.std.specs.Prelude.{IsErrOf, ◌↔◌}
 use Rattle.std.proofs.lemmas.List.{append_assoc}
 use Rattle.jolie_tokens.specs.declared.token.Token.{Token}
@@ -14,13 +14,13 @@ use Rattle.jolie_parse.specs.Classes.{spelled}
 use Rattle.jolie_parse.specs.Grammar.{IsFile}
 use Rattle.jolie_parse.specs.Answers as parsed
 use Rattle.jolie_parse.specs.Answers.{IsRefusedAt}
-use Rattle.explain_hints.specs.MayStand.{tried, IsFileOrBegun, MayGoOn, IsNoMemory}
+use Rattle.explain_hints.specs.MayStand.{IsFileOrBegun, MayGoOn, IsNoMemory}
 
 -- ---- the bytes that are tried
 
 -- they are put together of three
-pub tried_is : (text : List ℕ) (at : ℕ) (sample : List ℕ) → (take at text ++ 10 ∷ []) ++ sample ≡ tried text at sample
-tried_is text at sample = append_assoc (take at text) (10 ∷ []) sample
+pub tried_is : (front sample : List ℕ) → (front ++ 10 ∷ []) ++ sample ≡ front ++ 10 ∷ sample
+tried_is front sample = append_assoc front (10 ∷ []) sample
 
 -- ---- what lex says
 

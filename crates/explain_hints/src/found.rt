@@ -4,7 +4,7 @@ ghost use Rattle.std.specs.Prelude.{◌≡◌, IfOk, MatchBool};
 ghost use Rattle.explain_hints.specs.MayStand.{AreKept, AreToldAt, IsSaidBy, IsTold};
 
 use crate::hint::{HINTS, Hint, SaidBy};
-use crate::trial::may_stand;
+use crate::prefix::Prefix;
 use std::alloc::{AllocError, Global};
 
 /// What a person may be told of what may stand at a place: the hints that may stand there, in the table's order,
@@ -12,23 +12,18 @@ use std::alloc::{AllocError, Global};
 pub fn hints_at(alloc: Global, text: &[u8], at: usize) -> Result<Vec<Hint>, AllocError>
     ensures { IfOk result (λ told. AreToldAt text.now at told.items) }
 {
-    let told = told_among(alloc, text, at, &HINTS)?;
-    Ok(told)
+    let prefix = Prefix::new(alloc, text, at)?;
+    told_among(alloc, &prefix, &HINTS)
 }
 
 /// The hints among these that are told.
 #[tactic(auto, using(crate::proofs::Kept::kept_more, crate::proofs::Kept::left_more, crate::proofs::Kept::kept_at, crate::proofs::Kept::left_at, crate::proofs::Kept::all_kept))]
-fn told_among(
-    alloc: Global,
-    text: &[u8],
-    at: usize,
-    hints: &[Hint],
-) -> Result<Vec<Hint>, AllocError>
-    ensures { IfOk result (λ told. AreKept (IsTold text.now at) hints.now told.items) }
+fn told_among(alloc: Global, prefix: &Prefix, hints: &[Hint]) -> Result<Vec<Hint>, AllocError>
+    ensures { IfOk result (λ told. AreKept (IsTold prefix.now.text prefix.now.at) hints.now told.items) }
 {
     let mut told = Vec::new(alloc);
     for hint in hints {
-        if !is_told(alloc, text, at, *hint)? {
+        if !is_told(alloc, prefix, *hint)? {
             continue;
         }
         told.push(*hint)?;
@@ -38,13 +33,14 @@ fn told_among(
 
 /// Whether a hint may stand at a place, and no other that may stand says it too.
 #[tactic(auto, using(crate::proofs::Kept::told, crate::proofs::Kept::untold, crate::proofs::Kept::unsaid))]
-fn is_told(alloc: Global, text: &[u8], at: usize, hint: Hint) -> Result<bool, AllocError>
-    ensures { IfOk result (λ told. MatchBool told (IsTold text.now at hint) (IsTold text.now at hint → ⊥)) }
+fn is_told(alloc: Global, prefix: &Prefix, hint: Hint) -> Result<bool, AllocError>
+    ensures { IfOk result (λ told. MatchBool told (IsTold prefix.now.text prefix.now.at hint)
+        (IsTold prefix.now.text prefix.now.at hint → ⊥)) }
 {
-    if !may_stand(alloc, text, at, hint)? {
+    if !prefix.may_stand(alloc, hint)? {
         return Ok(false);
     }
-    if is_said(alloc, text, at, hint.said_by())? {
+    if is_said(alloc, prefix, hint.said_by())? {
         return Ok(false);
     }
     Ok(true)
@@ -52,19 +48,20 @@ fn is_told(alloc: Global, text: &[u8], at: usize, hint: Hint) -> Result<bool, Al
 
 /// Whether what says a hint too may stand at a place.
 #[tactic(auto, using(crate::proofs::Kept::never, crate::proofs::Kept::one, crate::proofs::Kept::other))]
-fn is_said(alloc: Global, text: &[u8], at: usize, other: SaidBy) -> Result<bool, AllocError>
-    ensures { IfOk result (λ said. MatchBool said (IsSaidBy text.now at other) (IsSaidBy text.now at other → ⊥)) }
+fn is_said(alloc: Global, prefix: &Prefix, other: SaidBy) -> Result<bool, AllocError>
+    ensures { IfOk result (λ said. MatchBool said (IsSaidBy prefix.now.text prefix.now.at other)
+        (IsSaidBy prefix.now.text prefix.now.at other → ⊥)) }
 {
     match other {
         SaidBy::Nothing => Ok(false),
-        SaidBy::Value => may_stand(alloc, text, at, Hint::Value),
-        SaidBy::Statement => may_stand(alloc, text, at, Hint::Statement),
+        SaidBy::Value => prefix.may_stand(alloc, Hint::Value),
+        SaidBy::Statement => prefix.may_stand(alloc, Hint::Statement),
         SaidBy::ValueOrStatement => {
-            if may_stand(alloc, text, at, Hint::Value)? {
+            if prefix.may_stand(alloc, Hint::Value)? {
                 return Ok(true);
             }
-            may_stand(alloc, text, at, Hint::Statement)
+            prefix.may_stand(alloc, Hint::Statement)
         }
-        SaidBy::Operator => may_stand(alloc, text, at, Hint::Operator),
+        SaidBy::Operator => prefix.may_stand(alloc, Hint::Operator),
     }
 }

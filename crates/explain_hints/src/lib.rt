@@ -5,8 +5,12 @@
 //! `specs/Hints.antt`, and when one may stand in `specs/MayStand.antt`.
 #![tactic(auto)]
 
+mod copies;
 mod found;
 mod hint;
+mod prefix;
+mod semicolons;
+mod short;
 mod trial;
 
 pub use found::hints_at;

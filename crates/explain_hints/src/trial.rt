@@ -1,41 +1,42 @@
 //! What comes of bytes with a sample behind them.
 
-ghost use Rattle.std.specs.Prelude.{◌≡◌, IfOk, MatchBool};
-ghost use Rattle.explain_hints.specs.MayStand.{tried as tried_bytes, IsNoMemory, MayGoOn, MayStand};
+ghost use Rattle.std.specs.Prelude.{◌≡◌, ◌∷◌, ◌++◌, IfOk, MatchBool};
+ghost use Rattle.explain_hints.specs.MayStand.{IsNoMemory, MayGoOn};
+ghost use Rattle.explain_hints.specs.Short.{StandFor};
 
-use crate::hint::Hint;
-use explain_places::before;
-use jolie_parse::{ParseError, parse};
-use jolie_tokens::{LexError, lex};
+use jolie_parse::{Beginning, ParseError, begin_file, parse};
+use jolie_tokens::{LexError, Token, lex};
 use std::alloc::{AllocError, Global};
 
-/// Whether a hint may stand at a place.
-pub(crate) fn may_stand(
-    alloc: Global,
-    text: &[u8],
-    at: usize,
-    hint: Hint,
-) -> Result<bool, AllocError>
-    ensures { IfOk result (λ may. MatchBool may (MayStand text.now at hint) (MayStand text.now at hint → ⊥)) }
-{
-    let bytes = tried(alloc, text, at, hint.sample())?;
-    may_go_on(alloc, bytes.as_slice())
-}
+/// How deep the parts of a file may nest.
+const LEVELS: u32 = 64;
 
-/// The bytes before a place, and on a line of its own a sample.
+/// Bytes, and on a line of its own a sample.
 #[tactic(auto, using(crate::proofs::Trials::tried_is))]
-fn tried(alloc: Global, text: &[u8], at: usize, sample: &str) -> Result<Vec<u8>, AllocError>
-    ensures { IfOk result (λ bytes. bytes.items ≡ tried_bytes text.now at sample.now) }
+pub(crate) fn with_sample(alloc: Global, front: &[u8], sample: &str) -> Result<Vec<u8>, AllocError>
+    ensures { IfOk result (λ bytes. bytes.items ≡ front.now ++ 10 ∷ sample.now) }
 {
-    let mut bytes = Vec::from_slice(alloc, before(text, at))?;
+    let mut bytes = Vec::from_slice(alloc, front)?;
     bytes.push(b'\n')?;
     bytes.extend_from_slice(sample.as_bytes())?;
     Ok(bytes)
 }
 
+/// Whether bytes are a file or begin one, by few tokens that stand for theirs.
+pub(crate) fn begins(alloc: Global, bytes: &[u8], short: &[Token]) -> Result<bool, AllocError>
+    requires { StandFor bytes.now short.now }
+    ensures { IfOk result (λ may. MatchBool may (MayGoOn bytes.now) (MayGoOn bytes.now → ⊥)) }
+{
+    match begin_file(alloc, bytes, short, LEVELS)? {
+        Beginning::MayGoOn => Ok(true),
+        Beginning::Stops => Ok(false),
+        Beginning::TooDeep => Ok(false),
+    }
+}
+
 /// Whether bytes are a file or begin one.
 #[tactic(auto, using(crate::proofs::Trials::fits, crate::proofs::Trials::is_file, crate::proofs::Trials::begins))]
-fn may_go_on(alloc: Global, bytes: &[u8]) -> Result<bool, AllocError>
+pub(crate) fn may_go_on(alloc: Global, bytes: &[u8]) -> Result<bool, AllocError>
     ensures { IfOk result (λ may. MatchBool may (MayGoOn bytes.now) (MayGoOn bytes.now → ⊥)) }
 {
     let tokens = match lex(alloc, bytes) {
@@ -59,7 +60,7 @@ fn may_go_on(alloc: Global, bytes: &[u8]) -> Result<bool, AllocError>
 }
 
 /// Want of memory says nothing of the bytes.
-fn unless_memory(error: LexError) -> Result<(), AllocError>
+pub(crate) fn unless_memory(error: LexError) -> Result<(), AllocError>
     ensures { IfOk result (λ done. IsNoMemory error) }
 {
     match error {
