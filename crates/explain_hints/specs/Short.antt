@@ -30,7 +30,7 @@ pub record StandFor (bytes : List ℕ) (short : List Token) : Type 0 where
   pub within : All (StandsIn bytes) short
   pub same : ComesTo (spelled bytes tokens) (spelled bytes short)
 
--- statements of a text stand in its tokens from a place on, each behind a semicolon, and a semicolon behind the last
+-- statements of a text stand in its tokens from a place on, each after a semicolon, and a semicolon after the last
 abbrev pub MayBeLeftOut : List ℕ → List Token → ℕ → ℕ → Type 0
 MayBeLeftOut text tokens at next =
     AreNext 32 (spelled text (take (next - at) (drop at tokens)))

@@ -46,7 +46,7 @@ fn moved_copies(alloc: Global, tokens: &[Token], by: u32) -> Result<Tokens, Allo
     Ok(copies)
 }
 
-/// Copies of tokens, and behind them copies of others so many bytes on.
+/// Copies of tokens, and after them copies of others so many bytes on.
 pub(crate) fn joined(
     alloc: Global,
     tokens: &[Token],

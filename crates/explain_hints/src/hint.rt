@@ -19,9 +19,9 @@ pub enum Hint {
     Name,
     Number,
     QuotedText,
-    /// A type behind a colon.
+    /// A type after a colon.
     Type,
-    /// The type of a request, behind which that of the response stands.
+    /// The type of a request, after which that of the response stands.
     RequestType,
     /// The last type of an operation, or that of a fault.
     LastType,

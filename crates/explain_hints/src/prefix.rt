@@ -39,7 +39,7 @@ impl<'a> Prefix<'a> {
         Ok(Prefix { text, at, short })
     }
 
-    /// Tokens that stand for those of the bytes with a sample behind them, where some are found.
+    /// Tokens that stand for those of the bytes with a sample after them, where some are found.
     fn short_with(&self, alloc: Global, sample: &str) -> Result<Option<Tokens>, AllocError>
         ensures { IfOk result (λ short. IfSome short
             (λ tokens. StandFor (tried self.now.text self.now.at sample.now) tokens)) }

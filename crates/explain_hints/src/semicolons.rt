@@ -18,7 +18,7 @@ pub(crate) fn is_semicolon(token: &Token) -> bool
     }
 }
 
-/// The levels that are open behind tokens.
+/// The levels that are open after tokens.
 #[derive(Drop)]
 struct Levels {
     /// For each of them, the place of its first `;` behind the last `|`.

@@ -77,7 +77,7 @@ fn without_statements(alloc: Global, text: &[u8], tokens: &[Token]) -> Result<To
     Ok(short)
 }
 
-/// Where tokens may go on from a place on: behind the statements of its level, if they may be left out.
+/// Where tokens may go on from a place on: after the statements of its level, if they may be left out.
 #[tactic(auto, using(crate::proofs::FewTokens::stays, crate::proofs::FewTokens::behind_statements))]
 fn next_kept(
     alloc: Global,
@@ -103,7 +103,7 @@ fn next_kept(
     Ok(next)
 }
 
-/// Tokens that stand for those of bytes with a sample behind them, where some are found; these stand for those of the
+/// Tokens that stand for those of bytes with a sample after them, where some are found; these stand for those of the
 /// bytes alone.
 pub(crate) fn short_with(
     alloc: Global,

@@ -1,4 +1,4 @@
-//! What comes of bytes with a sample behind them.
+//! What comes of bytes with a sample after them.
 
 ghost use Rattle.std.specs.Prelude.{◌≡◌, ◌∷◌, ◌++◌, IfOk, MatchBool};
 ghost use Rattle.explain_hints.specs.MayStand.{IsNoMemory, MayGoOn};
