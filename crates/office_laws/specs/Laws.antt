@@ -1,9 +1,8 @@
 -- What holds of every office whose history is legal.
-use Rattle.std.specs.Prelude.{◌≡◌, ◌++◌, true, false, List, [], ◌∷◌, Option, Some}
+use Rattle.std.specs.Prelude.{◌≡◌, ◌++◌, true, List, [], ◌∷◌, Option, Some}
 use Rattle.std.specs.List.{filter_map}
 use Rattle.behaviour_tree.specs.Data.{ProgramParts}
 use Rattle.correlation.specs.declared.bind_reply.BindReply.TheVariants as reply
-use Rattle.correlation.specs.declared.session.Session.{Session}
 use Rattle.correlation.specs.declared.session.Written.{Written}
 use Rattle.correlation.specs.Sessions.{reply_to}
 use Rattle.correlation.specs.View.{sessions_of}
@@ -20,15 +19,14 @@ use Rattle.office_core.specs.Keys.{Variable, brought_by}
 use Rattle.office_core.specs.Accepted.{message_of, past_of, then_one}
 use Rattle.office_core.specs.Bound.{Binding, bind_reply}
 use Rattle.office_core.specs.Legal.{IsLegal}
-use Rattle.office_plain.specs.SetNumbers.{numbered_sets}
 use Rattle.office_plain.specs.declared.kept.Kept.{Kept}
-use Rattle.office_plain.specs.Accepting.{written_into}
+use Rattle.office_plain.specs.Accepting.{started_with, written_into}
 use Rattle.office_plain.specs.Kept.{variables_of}
 use Rattle.office_plain.specs.Ties.{Ties}
 
 -- ---- boxes
 
--- A message that is accepted finds room in the box of its session: so no full box can stand for want of memory.
+-- A message that is accepted finds room in the box of its session.
 abbrev pub FindsRoom : Type 0
 FindsRoom =
     (parts : ProgramParts) (h : List Entry) (kept : Kept) (from : Origin) (q : Posted) (m : Message)
@@ -68,13 +66,7 @@ BindsFirst =
     → IsLegal w h → message_of w (past_of w h) from q ≡ Some m → m.starts ≡ true
     → AreBound w (past_of w h) m (first_values w m)
 
--- the session that a message starts, once some of these values were written
-abbrev pub started_with : ProgramParts → Message → List Written → Session
-started_with parts m us =
-    record { number = m.session; sets = numbered_sets parts m.service; written = us; released = false }
-
--- What is kept answers Bound to each of these values when it is written behind the others, the session being born: so
--- no other reply can stand for want of memory.
+-- What is kept answers Bound to each of these values when it is written behind the others, the session being born.
 abbrev pub WritesFirst : Type 0
 WritesFirst =
     (parts : ProgramParts) (h : List Entry) (kept : Kept) (from : Origin) (q : Posted) (m : Message)

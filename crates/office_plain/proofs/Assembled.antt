@@ -1,7 +1,6 @@
 -- What the steps of an acceptance did, put together.
 use Rattle.std.proofs.Common.{◌≡◌, ℕ, ◌+◌, true, false, List, [], ◌∷◌, ◌++◌, length, refl, sym, ap, subst, ◌∙◌, Some, is_some}
 use Rattle.std.specs.Prelude.{if◌then◌else◌}
-use Rattle.std.specs.List.{filter_map}
 use Rattle.jolie_trees.specs.Limits.{in_u64}
 use Rattle.behaviour_tree.specs.Data.{OperationPart, ProgramParts}
 use Rattle.correlation.specs.declared.rows.Rows.{Rows}
@@ -16,8 +15,7 @@ use Rattle.office_core.specs.declared.message.Message.{Message}
 use Rattle.office_core.specs.Weights.{weight}
 use Rattle.office_plain.specs.SetNumbers.{numbered_sets}
 use Rattle.office_plain.specs.declared.kept.Kept.{Kept}
-use Rattle.office_plain.specs.Accepting.{newborn_row, if_starts, started, standing_first, write_all, written_by, Accepts, Opens, Starts}
-use Rattle.office_plain.specs.Kept.{variables_of}
+use Rattle.office_plain.specs.Accepting.{brought, newborn_row, if_starts, started, standing_first, write_all, Accepts, CanStart, CanWrite, Opens, Starts}
 use Rattle.office_plain.proofs.Writes.{newborn_written, newborn_lives}
 
 -- ---- the session that a message starts
@@ -45,13 +43,18 @@ pub opened_lives : (parts : ProgramParts) (s d : ℕ) (old mid : Kept) → Opens
 opened_lives parts s d old mid opens =
     ap (λ l. is_live l s) opens.rows ∙ newborn_lives s (numbered_sets parts d) (sessions_of old.rows)
 
+-- what the message brings can be written into it
+pub opened_can : (parts : ProgramParts) (o : OperationPart) (m : Message) (old mid : Kept)
+    → Opens parts m.session m.service old mid → CanStart parts o m (sessions_of old.rows) → m.starts ≡ true
+    → CanWrite m.session (sessions_of mid.rows) (brought parts o m)
+opened_can parts o m old mid opens can on =
+    subst (λ l. CanWrite m.session l (brought parts o m)) (sym opens.rows) (can on)
+
 -- a message that starts one, in whose variables is written what it brings
 pub starts_one : (parts : ProgramParts) (o : OperationPart) (m : Message) (old mid : Kept) (rows : Rows)
     → m.starts ≡ true
     → is_born (sessions_of old.rows) m.session ≡ false → Opens parts m.session m.service old mid
-    → sessions_of rows
-    ≡ changed m.session (write_all (filter_map (written_by o.request m.value) (variables_of parts m.service)))
-    (sessions_of mid.rows)
+    → sessions_of rows ≡ changed m.session (write_all (brought parts o m)) (sessions_of mid.rows)
     → Starts parts o m old (record mid { rows = rows })
 starts_one parts o m old mid rows on unborn opens written =
     record {
@@ -59,10 +62,8 @@ starts_one parts o m old mid rows on unborn opens written =
       places = opens.places ∙ if_so m [] old.places.items on;
       rows =
           written
-          ∙ ap (changed m.session
-          (write_all (filter_map (written_by o.request m.value) (variables_of parts m.service)))) opens.rows
-          ∙ newborn_written m.session (numbered_sets parts m.service)
-          (filter_map (written_by o.request m.value) (variables_of parts m.service)) (sessions_of old.rows) unborn
+          ∙ ap (changed m.session (write_all (brought parts o m))) opens.rows
+          ∙ newborn_written m.session (numbered_sets parts m.service) (brought parts o m) (sessions_of old.rows) unborn
           ∙ if_so m (started parts o m) (sessions_of old.rows) on;
       others = ap (λ (k : Kept). record k { rows = rows }) opens.others;
     }

@@ -98,7 +98,7 @@ given_here : (o : Option Root) (number n : ℕ) (ws : List Written) → nat_eq n
 given_here None number n ws e h = h
 given_here (Some x) number n ws e h = ap (λ b. if b then Some x else value_of ws n) e
 
-given_below : (f : Variable → Option Root) (base n : ℕ) (vs : List Variable) → AreNumbered base vs → n < base
+pub given_below : (f : Variable → Option Root) (base n : ℕ) (vs : List Variable) → AreNumbered base vs → n < base
     → value_of (filter_map (given_to f) vs) n ≡ None
 given_below f base n [] numbered less = refl
 given_below f base n (v ∷ vs) numbered less =

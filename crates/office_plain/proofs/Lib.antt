@@ -22,6 +22,8 @@ pub mod Stays
 pub mod Unseen
 pub mod Waiting
 pub mod Writes
+pub mod Alike
+pub mod Starting
 pub mod Adopting
 pub mod AnswerTaken
 pub mod Binding
@@ -32,6 +34,9 @@ pub mod Ending
 pub mod Fetching
 pub mod Posting
 pub mod Routing
+pub mod Found
+pub mod Born
+pub mod FirstValues
 pub mod Sending
 pub mod Whole
 pub mod Replying

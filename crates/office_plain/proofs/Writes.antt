@@ -1,5 +1,5 @@
 -- What is written into the variables of a session, one after the other, is all written.
-use Rattle.std.proofs.Common.{◌≡◌, ◌≤◌, ◌<◌, ℕ, zero, suc, ◌+◌, Bool, true, false, not, ◌&&◌, ◌||◌, List, [], ◌∷◌, ◌++◌, map, length, drop, get_or, refl, sym, ap, ◌∙◌, Option, None, Some, option_copied, Bor, true≢false, arith}
+use Rattle.std.proofs.Common.{◌≡◌, ◌≤◌, ◌<◌, ℕ, zero, suc, ◌+◌, Bool, true, false, not, ◌&&◌, ◌||◌, List, [], ◌∷◌, ◌++◌, map, length, drop, get_or, refl, sym, ap, subst, ◌∙◌, Option, None, Some, option_copied, Bor, true≢false, arith}
 use Rattle.std.specs.Prelude.{nat_eq, flat_map, if◌then◌else◌}
 use Rattle.std.specs.List.{cons_option, filter_map}
 use Rattle.std.proofs.lemmas.List.{length-map}
@@ -10,15 +10,16 @@ use Rattle.behaviour_tree.specs.Data.{TypeTree}
 use Rattle.behaviour_tree.specs.PartsView.{set_view, variable_view}
 use Rattle.behaviour_tree.specs.declared.program.CorrelationSet.{CorrelationSet}
 use Rattle.behaviour_tree.specs.declared.program.SetVariable.{SetVariable}
+use Rattle.correlation.specs.declared.bind_reply.BindReply.TheVariants as reply
 use Rattle.correlation.specs.declared.session.SetOf.{SetOf}
 use Rattle.correlation.specs.declared.session.Session.{Session}
 use Rattle.correlation.specs.declared.session.Written.{Written}
-use Rattle.correlation.specs.Sessions.{changed, is_born, is_live, newborn, write}
+use Rattle.correlation.specs.Sessions.{changed, is_born, is_live, newborn, reply_to, write}
 use Rattle.office_core.specs.Keys.{value_of, variables_from, sets_from}
 use Rattle.office_plain.specs.Lookups.{variable_of, value_in}
 use Rattle.office_plain.proofs.Paths.{next_of}
 use Rattle.office_plain.proofs.Variables.{value_free}
-use Rattle.office_plain.specs.Accepting.{write_all, written_by, written_into}
+use Rattle.office_plain.specs.Accepting.{write_all, written_by, written_into, CanWrite}
 use Rattle.office_plain.proofs.Lists.{itself}
 
 append_nil : {A : Type 0} (xs : List A) → xs ++ [] ≡ xs
@@ -65,6 +66,19 @@ pub written_none : (n : ℕ) (rows : List Session) → changed n (write_all []) 
 written_none n [] = refl
 written_none n (s ∷ rows) = λ i. none_one n s (nat_eq s.number n) i ∷ written_none n rows i
 
+-- of values that can be written one after the other, the first ones can be
+can_before : (n : ℕ) (rows : List Session) (a b : List Written) → CanWrite n rows (a ++ b) → CanWrite n rows a
+can_before n rows [] b can = tt
+can_before n rows (x ∷ a) b can = (can.0, can_before n (changed n (write x.variable x.value) rows) a b can.1)
+
+-- and then the others
+can_behind : (n : ℕ) (rows : List Session) (a b : List Written) → CanWrite n rows (a ++ b)
+    → CanWrite n (changed n (write_all a) rows) b
+can_behind n rows [] b can = subst (λ l. CanWrite n l b) (sym (written_none n rows)) can
+can_behind n rows (x ∷ a) b can =
+    subst (λ l. CanWrite n l b) (written_twice n (x ∷ []) a rows)
+    (can_behind n (changed n (write x.variable x.value) rows) a b can.1)
+
 live_one : (n : ℕ) (ws : List Written) (s : Session) (t : Bool) → nat_eq s.number n ≡ t
     → (nat_eq (if t then write_all ws s else s).number n && not (if t then write_all ws s else s).released)
     ≡ (nat_eq s.number n && not s.released)
@@ -97,6 +111,14 @@ value_some n k o r x rows new some same are =
     are ∙ ap (λ y. changed n (write_all (record { variable = k; value = y } ∷ [])) rows) same
     ∙ sym (ap (with_value n k rows) some)
 
+-- it can be written where it is there
+pub value_can : (n k : ℕ) (o : Option (Bor Root)) (r : Bor Root) (x : Root) (rows : List Session) → o ≡ Some r
+    → x ≡ r.now → CanWrite n rows (cons_option (written_into k (option_copied o)) [])
+    → reply_to rows n k x ≡ Some reply.Bound
+value_can n k o r x rows some same can =
+    ap (reply_to rows n k) same
+    ∙ (subst (λ p. CanWrite n rows (cons_option (written_into k (option_copied p)) [])) some can).0
+
 -- ---- the variables of a message
 
 first_before : (o : Option Written) (ws : List Written) → cons_option o [] ++ ws ≡ cons_option o ws
@@ -107,6 +129,22 @@ first_before (Some w) ws = refl
 abbrev pub writes_on : TypeTree → Tree → ℕ → ℕ → List SetVariable → List Written
 writes_on ty t k i vs = filter_map (written_by ty t) (variables_from k (map variable_view (drop i vs)))
 
+-- what is written from a variable on: into it, and into those behind it
+variable_split : (k next i : ℕ) (ty : TypeTree) (t : Tree) (vs : List SetVariable) (v : SetVariable) (o : Option Root)
+    → i < length vs → v ≡ get_or vs i v → o ≡ value_in ty t (variable_view v) → next ≡ k + 1
+    → writes_on ty t k i vs ≡ cons_option (written_into k o) [] ++ writes_on ty t next (i + 1) vs
+variable_split k next i ty t vs v o within is value number =
+    ap (λ us. filter_map (written_by ty t) (variables_from k (map variable_view us))) (next_of vs i v within is)
+    ∙ (λ j. cons_option (written_into k (given j))
+    (filter_map (written_by ty t) (variables_from (after j) (map variable_view (drop (i + 1) vs)))))
+    ∙ sym (first_before (written_into k o) (writes_on ty t next (i + 1) vs))
+  where
+    given : value_of ty t (variable_of k (variable_view v)) ≡ o
+    given = value_free ty t k (variable_view v) ∙ sym value
+
+    after : suc k ≡ next
+    after = omega arith
+
 -- one variable more
 pub variable_turn : (n k next i : ℕ) (ty : TypeTree) (t : Tree) (vs : List SetVariable) (v : SetVariable)
     (o : Option Root)
@@ -116,19 +154,28 @@ pub variable_turn : (n k next i : ℕ) (ty : TypeTree) (t : Tree) (vs : List Set
     → all ≡ changed n (write_all (writes_on ty t next (i + 1) vs)) new
 variable_turn n k next i ty t vs v o all rows new within is value are number before =
     before
-    ∙ ap (λ us. changed n (write_all (filter_map (written_by ty t) (variables_from k (map variable_view us)))) rows)
-    (next_of vs i v within is)
-    ∙ (λ j. changed n (write_all (cons_option (written_into k (given j))
-    (filter_map (written_by ty t) (variables_from (after j) (map variable_view (drop (i + 1) vs)))))) rows)
-    ∙ ap (λ ws. changed n (write_all ws) rows) (sym (first_before (written_into k o) (writes_on ty t next (i + 1) vs)))
+    ∙ ap (λ ws. changed n (write_all ws) rows) (variable_split k next i ty t vs v o within is value number)
     ∙ sym (written_twice n (cons_option (written_into k o) []) (writes_on ty t next (i + 1) vs) rows)
     ∙ ap (changed n (write_all (writes_on ty t next (i + 1) vs))) (sym are)
-  where
-    given : value_of ty t (variable_of k (variable_view v)) ≡ o
-    given = value_free ty t k (variable_view v) ∙ sym value
 
-    after : suc k ≡ next
-    after = omega arith
+-- its value can be written
+pub variable_can : (n k i : ℕ) (ty : TypeTree) (t : Tree) (vs : List SetVariable) (v : SetVariable) (o : Option Root)
+    (rows : List Session) → i < length vs → v ≡ get_or vs i v → o ≡ value_in ty t (variable_view v)
+    → CanWrite n rows (writes_on ty t k i vs) → CanWrite n rows (cons_option (written_into k o) [])
+variable_can n k i ty t vs v o rows within is value can =
+    can_before n rows (cons_option (written_into k o) []) (writes_on ty t (k + 1) (i + 1) vs)
+    (subst (CanWrite n rows) (variable_split k (k + 1) i ty t vs v o within is value refl) can)
+
+-- and then those behind it
+pub variable_then : (n k next i : ℕ) (ty : TypeTree) (t : Tree) (vs : List SetVariable) (v : SetVariable)
+    (o : Option Root) (rows new : List Session) → i < length vs → v ≡ get_or vs i v
+    → o ≡ value_in ty t (variable_view v)
+    → new ≡ changed n (write_all (cons_option (written_into k o) [])) rows → next ≡ k + 1
+    → CanWrite n rows (writes_on ty t k i vs) → CanWrite n new (writes_on ty t next (i + 1) vs)
+variable_then n k next i ty t vs v o rows new within is value are number can =
+    subst (λ l. CanWrite n l (writes_on ty t next (i + 1) vs)) (sym are)
+    (can_behind n rows (cons_option (written_into k o) []) (writes_on ty t next (i + 1) vs)
+    (subst (CanWrite n rows) (variable_split k next i ty t vs v o within is value number) can))
 
 -- no variable more
 pub variables_end : (n k i : ℕ) (ty : TypeTree) (t : Tree) (vs : List SetVariable) (all rows : List Session)
@@ -146,34 +193,58 @@ variables_end n k i ty t vs all rows past before =
 abbrev pub writes_in : TypeTree → Tree → ℕ → ℕ → List CorrelationSet → List Written
 writes_in ty t k i sets = filter_map (written_by ty t) (flat_map (λ vs. vs) (sets_from k (map set_view (drop i sets))))
 
+-- what a tree writes into the variables of a set, the first of which has the number k
+abbrev pub writes_of : TypeTree → Tree → ℕ → List SetVariable → List Written
+writes_of ty t k vs = filter_map (written_by ty t) (variables_from k (map variable_view vs))
+
+-- what is written from a set on: into its variables, and into those behind them
+set_split : (k next i : ℕ) (ty : TypeTree) (t : Tree) (sets : List CorrelationSet) (set : CorrelationSet)
+    (vs : List SetVariable)
+    → i < length sets → set ≡ get_or sets i set → vs ≡ set.variables.items → next ≡ k + length vs
+    → writes_in ty t k i sets ≡ writes_of ty t k vs ++ writes_in ty t next (i + 1) sets
+set_split k next i ty t sets set vs within is same number =
+    ap (λ ss. filter_map (written_by ty t) (flat_map (λ vs. vs) (sets_from k (map set_view ss))))
+    (next_of sets i set within is)
+    ∙ filter_map-append (written_by ty t) (variables_from k (map variable_view set.variables.items))
+    (flat_map (λ vs. vs)
+    (sets_from (k + length (map variable_view set.variables.items)) (map set_view (drop (i + 1) sets))))
+    ∙ (λ j. writes_of ty t k (sym same j) ++ writes_in ty t (many j) (i + 1) sets)
+  where
+    many : k + length (map variable_view set.variables.items) ≡ next
+    many = ap (λ l. k + l) (length-map set.variables.items variable_view ∙ ap length (sym same)) ∙ sym number
+
 -- one set more
 pub set_turn : (n k next i : ℕ) (ty : TypeTree) (t : Tree) (sets : List CorrelationSet) (set : CorrelationSet)
     (vs : List SetVariable)
     (all rows new : List Session) → i < length sets → set ≡ get_or sets i set → vs ≡ set.variables.items
-    → new ≡ changed n (write_all (filter_map (written_by ty t) (variables_from k (map variable_view vs)))) rows
-    → next ≡ k + length vs
+    → new ≡ changed n (write_all (writes_of ty t k vs)) rows → next ≡ k + length vs
     → all ≡ changed n (write_all (writes_in ty t k i sets)) rows
     → all ≡ changed n (write_all (writes_in ty t next (i + 1) sets)) new
 set_turn n k next i ty t sets set vs all rows new within is same are number before =
     before
-    ∙ ap (λ ss. changed n
-    (write_all (filter_map (written_by ty t) (flat_map (λ vs. vs) (sets_from k (map set_view ss))))) rows)
-    (next_of sets i set within is)
-    ∙ ap (λ ws. changed n (write_all ws) rows)
-    (filter_map-append (written_by ty t) (variables_from k (map variable_view set.variables.items))
-    (flat_map (λ vs. vs)
-    (sets_from (k + length (map variable_view set.variables.items)) (map set_view (drop (i + 1) sets))))
-    ∙ ap (λ m. filter_map (written_by ty t) (variables_from k (map variable_view set.variables.items))
-    ++ filter_map (written_by ty t) (flat_map (λ vs. vs) (sets_from m (map set_view (drop (i + 1) sets))))) many)
-    ∙ sym (written_twice n (filter_map (written_by ty t) (variables_from k (map variable_view set.variables.items)))
-    (writes_in ty t next (i + 1) sets) rows)
-    ∙ ap (changed n (write_all (writes_in ty t next (i + 1) sets)))
-    (sym (are
-    ∙ ap (λ us. changed n (write_all (filter_map (written_by ty t) (variables_from k (map variable_view us)))) rows)
-    same))
-  where
-    many : k + length (map variable_view set.variables.items) ≡ next
-    many = ap (λ l. k + l) (length-map set.variables.items variable_view ∙ ap length (sym same)) ∙ sym number
+    ∙ ap (λ ws. changed n (write_all ws) rows) (set_split k next i ty t sets set vs within is same number)
+    ∙ sym (written_twice n (writes_of ty t k vs) (writes_in ty t next (i + 1) sets) rows)
+    ∙ ap (changed n (write_all (writes_in ty t next (i + 1) sets))) (sym are)
+
+-- the values of its variables can be written
+pub set_can : (n k i : ℕ) (ty : TypeTree) (t : Tree) (sets : List CorrelationSet) (set : CorrelationSet)
+    (vs : List SetVariable) (rows : List Session)
+    → i < length sets → set ≡ get_or sets i set → vs ≡ set.variables.items
+    → CanWrite n rows (writes_in ty t k i sets) → CanWrite n rows (writes_of ty t k vs)
+set_can n k i ty t sets set vs rows within is same can =
+    can_before n rows (writes_of ty t k vs) (writes_in ty t (k + length vs) (i + 1) sets)
+    (subst (CanWrite n rows) (set_split k (k + length vs) i ty t sets set vs within is same refl) can)
+
+-- and then those behind them
+pub set_then : (n k next i : ℕ) (ty : TypeTree) (t : Tree) (sets : List CorrelationSet) (set : CorrelationSet)
+    (vs : List SetVariable) (rows new : List Session)
+    → i < length sets → set ≡ get_or sets i set → vs ≡ set.variables.items
+    → new ≡ changed n (write_all (writes_of ty t k vs)) rows → next ≡ k + length vs
+    → CanWrite n rows (writes_in ty t k i sets) → CanWrite n new (writes_in ty t next (i + 1) sets)
+set_then n k next i ty t sets set vs rows new within is same are number can =
+    subst (λ l. CanWrite n l (writes_in ty t next (i + 1) sets)) (sym are)
+    (can_behind n rows (writes_of ty t k vs) (writes_in ty t next (i + 1) sets)
+    (subst (CanWrite n rows) (set_split k next i ty t sets set vs within is same number) can))
 
 -- no set more
 pub sets_end : (n k i : ℕ) (ty : TypeTree) (t : Tree) (sets : List CorrelationSet) (all rows : List Session)

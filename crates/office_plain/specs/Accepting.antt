@@ -1,5 +1,5 @@
 -- What an accepted message makes of what happened, before the entry of its call is added, and of what is kept.
-use Rattle.std.specs.Prelude.{◌≡◌, ℕ, suc, ◌+◌, ◌++◌, ◌&&◌, Bool, false, not, nat_lt, List, [], ◌∷◌, length, map}
+use Rattle.std.specs.Prelude.{◌≡◌, ℕ, suc, ◌+◌, ◌++◌, ◌&&◌, Bool, true, false, not, nat_lt, List, [], ◌∷◌, length, map}
 use Rattle.std.specs.Prelude.{is_some, if◌then◌else◌, Option, None, Some, option_map, Result, Ok, Err}
 use Rattle.std.specs.List.{filter_map}
 use Rattle.jolie_trees.specs.Limits.{in_u64}
@@ -10,9 +10,10 @@ use Rattle.behaviour_tree.specs.Data.{OperationPart, ProgramParts, ServicePart, 
 use Rattle.behaviour_tree.specs.FormedSets.{is_concurrent}
 use Rattle.behaviour_tree.specs.declared.words.Outcome.TheVariants as outcome
 use Rattle.behaviour_tree.specs.declared.words.Reason.{Reason}
+use Rattle.correlation.specs.declared.bind_reply.BindReply.TheVariants as reply
 use Rattle.correlation.specs.declared.session.Session.{Session}
 use Rattle.correlation.specs.declared.session.Written.{Written}
-use Rattle.correlation.specs.Sessions.{newborn}
+use Rattle.correlation.specs.Sessions.{changed, newborn, reply_to, write}
 use Rattle.correlation.specs.View.{sessions_of}
 use Rattle.post_box.specs.Oldest.{waiting}
 use Rattle.post_box.specs.View.{box_of, ChangesOnly}
@@ -97,18 +98,34 @@ written_into n o = option_map (λ x. record { variable = n; value = x }) o
 abbrev pub written_by : TypeTree → Tree → Variable → Option Written
 written_by ty t v = written_into v.number (value_of ty t v)
 
+-- what a message of an operation brings of the variables of its service, in order
+abbrev pub brought : ProgramParts → OperationPart → Message → List Written
+brought parts o m = filter_map (written_by o.request m.value) (variables_of parts m.service)
+
 -- a session with some more written
 abbrev pub write_all : List Written → Session → Session
 write_all ws s = record { number = s.number; sets = s.sets; written = s.written ++ ws; released = s.released }
 
--- the session that a message of an operation starts, with what it writes into the variables of its service
+-- the session that a message starts, once some values were written
+abbrev pub started_with : ProgramParts → Message → List Written → Session
+started_with parts m us =
+    record { number = m.session; sets = numbered_sets parts m.service; written = us; released = false }
+
+-- the session that a message of an operation starts, with what it brings
 abbrev pub started : ProgramParts → OperationPart → Message → Session
-started parts o m = record {
-  number = m.session;
-  sets = numbered_sets parts m.service;
-  written = filter_map (written_by o.request m.value) (variables_of parts m.service);
-  released = false;
-}
+started parts o m = started_with parts m (brought parts o m)
+
+-- values can be written into variables of session s one after the other: each is answered Bound
+abbrev pub CanWrite : ℕ → List Session → List Written → Type 0
+CanWrite s rows [] = Unit {0}
+CanWrite s rows (x ∷ xs) =
+    (reply_to rows s x.variable x.value ≡ Some reply.Bound)
+    × CanWrite s (changed s (write x.variable x.value) rows) xs
+
+-- what a message of an operation brings can be written into the session that it starts, where it starts one
+abbrev pub CanStart : ProgramParts → OperationPart → Message → List Session → Type 0
+CanStart parts o m rows =
+    m.starts ≡ true → CanWrite m.session (rows ++ started_with parts m [] ∷ []) (brought parts o m)
 
 -- a list with one more where a message starts a session
 abbrev pub if_starts : {A : Type 0} → Message → A → List A → List A

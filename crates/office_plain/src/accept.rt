@@ -5,9 +5,10 @@ ghost use Rattle.behaviour_tree.specs.PartsView.{operation_view, parts_of};
 ghost use Rattle.correlation.specs.Sessions.{is_born};
 ghost use Rattle.correlation.specs.View.{sessions_of};
 ghost use Rattle.post_box.specs.Oldest.{waiting};
+ghost use Rattle.post_box.specs.Refusals.{HasRoom};
 ghost use Rattle.post_box.specs.View.{box_of, ChangesOnly};
 ghost use Rattle.reqresp_book.specs.View.{origin_of, standing_of};
-ghost use Rattle.office_plain.specs.Accepting.{standing_first, Accepts, Starts};
+ghost use Rattle.office_plain.specs.Accepting.{standing_first, Accepts, CanStart, Starts};
 
 use crate::kept::Kept;
 use crate::weights::weight;
@@ -15,13 +16,13 @@ use crate::writing::write_first;
 use behaviour_tree::{Operation, Outcome, Program, numbered};
 use jolie_trees::Tree;
 use office_core::Message;
-use post_box::Boxes;
+use post_box::{Boxes, PutError};
 use reqresp_book::{Book, Origin};
 use std::alloc::{AllocError, Global};
 
 impl Kept {
     /// Notes an accepted message.
-    pub fn accept(
+    pub(crate) fn accept(
         &mut self,
         alloc: Global,
         program: &Program,
@@ -31,6 +32,9 @@ impl Kept {
         requires few { length self.old.messages < 2 ^ 32 }
         requires fresh { origin_of self.old.book (length self.old.messages) ≡ None }
         requires unborn { message.starts ≡ true → is_born (sessions_of self.old.rows) message.session ≡ false }
+        requires free { CanStart (parts_of program.now) (operation_view operation.now) message
+            (sessions_of self.old.rows) }
+        requires room { HasRoom (box_of self.old.boxes message.session) }
         ensures { OnOk result (Accepts (parts_of program.now) (operation_view operation.now) message self.old
             self.new) }
     {
@@ -51,7 +55,10 @@ impl Kept {
         operation: &Operation,
         message: &Message,
     ) -> Result<(), AllocError>
-        requires { message.now.starts ≡ true → is_born (sessions_of self.old.rows) message.now.session ≡ false }
+        requires unborn { message.now.starts ≡ true → is_born (sessions_of self.old.rows) message.now.session
+            ≡ false }
+        requires free { CanStart (parts_of program.now) (operation_view operation.now) message.now
+            (sessions_of self.old.rows) }
         ensures { OnOk result (Starts (parts_of program.now) (operation_view operation.now) message.now self.old
             self.new) }
     {
@@ -87,14 +94,15 @@ fn note(
     Ok(())
 }
 
-/// Puts a message into the box of its session, which has room where the message was routed to it: a box without room
-/// counts as want of memory.
+/// Puts a message into the box of its session, which has room.
 fn put(boxes: &mut Boxes, session: u32, op: u32, number: u32) -> Result<(), AllocError>
+    requires { HasRoom (box_of boxes.old session) }
     ensures { OnOk result (ChangesOnly session (box_of boxes.old session ++ waiting op number ∷ []) boxes.old
         boxes.new) }
 {
     match boxes.put(session, op, number) {
         Ok(()) => Ok(()),
-        Err(_) => Err(AllocError),
+        Err(PutError::Full) => unreachable!(),
+        Err(PutError::Memory(error)) => Err(error),
     }
 }

@@ -1,15 +1,16 @@
 //! What the message that starts a session writes into its variables.
 
-ghost use Rattle.std.specs.Prelude.{◌≡◌, ◌+◌, ◌<◌, ◌^◌, [], true, flat_map, map, length, IfOk, OnOk};
+ghost use Rattle.std.specs.Prelude.{◌≡◌, ◌+◌, ◌<◌, ◌^◌, [], Some, true, flat_map, map, length, IfOk, OnOk};
 ghost use Rattle.std.specs.List.{cons_option, filter_map};
 ghost use Rattle.std.specs.Option.{option_copied};
 ghost use Rattle.behaviour_tree.specs.FormedNumbers.{count_variables};
 ghost use Rattle.behaviour_tree.specs.PartsView.{operation_view, parts_of, set_view, variable_view};
 ghost use Rattle.behaviour_tree.specs.View.{type_view};
-ghost use Rattle.correlation.specs.Sessions.{changed, is_live, write};
+ghost use Rattle.correlation.specs.Sessions.{changed, is_live, reply_to, write};
 ghost use Rattle.correlation.specs.View.{sessions_of};
+ghost use Rattle.correlation.specs.declared.bind_reply.BindReply.TheVariants.{Bound};
 ghost use Rattle.office_core.specs.Keys.{sets_from, variables_from};
-ghost use Rattle.office_plain.specs.Accepting.{write_all, written_by, written_into};
+ghost use Rattle.office_plain.specs.Accepting.{brought, write_all, written_by, written_into, CanWrite};
 ghost use Rattle.office_plain.specs.Kept.{variables_of};
 
 use crate::aliases::value_of;
@@ -27,10 +28,11 @@ pub(crate) fn write_first(
     operation: &Operation,
     message: &Message,
 ) -> Result<(), AllocError>
-    requires { is_live (sessions_of rows.old) message.now.session ≡ true }
+    requires live { is_live (sessions_of rows.old) message.now.session ≡ true }
+    requires free { CanWrite message.now.session (sessions_of rows.old)
+        (brought (parts_of program.now) (operation_view operation.now) message.now) }
     ensures { OnOk result (sessions_of rows.new ≡ changed message.now.session
-        (write_all (filter_map (written_by (operation_view operation.now).request message.now.value)
-        (variables_of (parts_of program.now) message.now.service))) (sessions_of rows.old)) }
+        (write_all (brought (parts_of program.now) (operation_view operation.now) message.now)) (sessions_of rows.old)) }
 {
     let sets = sets_of(program, message.service);
     write_sets(rows, sets, &operation.request, message)?;
@@ -57,6 +59,9 @@ fn write_sets(
     message: &Message,
 ) -> Result<(), AllocError>
     requires live { is_live (sessions_of rows.old) message.now.session ≡ true }
+    requires free { CanWrite message.now.session (sessions_of rows.old)
+        (filter_map (written_by (type_view ty.now) message.now.value)
+        (flat_map (λ vs. vs) (sets_from 0 (map set_view sets.now)))) }
     requires few { count_variables (map set_view sets.now) < 2 ^ 32 }
     ensures { OnOk result (sessions_of rows.new ≡ changed message.now.session
         (write_all (filter_map (written_by (type_view ty.now) message.now.value)
@@ -78,6 +83,9 @@ fn write_set(
     message: &Message,
 ) -> Result<u32, AllocError>
     requires live { is_live (sessions_of rows.old) message.now.session ≡ true }
+    requires free { CanWrite message.now.session (sessions_of rows.old)
+        (filter_map (written_by (type_view ty.now) message.now.value)
+        (variables_from first (map variable_view variables.now))) }
     requires few { first + length variables.now < 2 ^ 32 }
     ensures next { IfOk result (λ n. n ≡ first + length variables.now) }
     ensures live { OnOk result (is_live (sessions_of rows.new) message.now.session ≡ true) }
@@ -101,7 +109,9 @@ fn write_value(
     variable: u32,
     value: Option<&Root>,
 ) -> Result<(), AllocError>
-    requires { is_live (sessions_of rows.old) session ≡ true }
+    requires live { is_live (sessions_of rows.old) session ≡ true }
+    requires free { CanWrite session (sessions_of rows.old)
+        (cons_option (written_into variable (option_copied value)) []) }
     ensures { OnOk result (sessions_of rows.new ≡ changed session
         (write_all (cons_option (written_into variable (option_copied value.entry)) [])) (sessions_of rows.old)) }
 {
@@ -113,14 +123,15 @@ fn write_value(
     Ok(())
 }
 
-/// Writes a value into a variable of a session. It is new there and no live session has its key where the message was
-/// routed to a new session: any other reply than Bound counts as want of memory.
+/// Writes a value into a variable of a session.
 fn write_one(rows: &mut Rows, session: u32, variable: u32, value: Root) -> Result<(), AllocError>
-    requires { is_live (sessions_of rows.old) session ≡ true }
+    requires live { is_live (sessions_of rows.old) session ≡ true }
+    requires free { reply_to (sessions_of rows.old) session variable value ≡ Some Bound }
     ensures { OnOk result (sessions_of rows.new ≡ changed session (write variable value) (sessions_of rows.old)) }
 {
     match rows.bind(session, variable, value)? {
         BindReply::Bound => Ok(()),
-        BindReply::Held(_) | BindReply::Fixed => Err(AllocError),
+        BindReply::Held(_) => unreachable!(),
+        BindReply::Fixed => unreachable!(),
     }
 }

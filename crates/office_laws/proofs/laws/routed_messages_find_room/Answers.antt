@@ -1,4 +1,4 @@
-use Rattle.office_laws.proofs.Born.{finds_room}
+use Rattle.office_plain.proofs.Born.{finds_room}
 use Rattle.office_laws.proofs.laws.routed_messages_find_room.Goals as goal
 
 pub returns : goal.returns

@@ -1,7 +1,15 @@
-use Rattle.std.proofs.Common.{◌≡◌, length, rules}
+use Rattle.std.proofs.Common.{◌≡◌, ap, length, subst, sym, rules}
 use Rattle.behaviour_tree.specs.PartsView.{operation_view, parts_of}
+use Rattle.post_box.specs.Refusals.{HasRoom}
+use Rattle.post_box.specs.View.{box_of}
+use Rattle.office_plain.specs.declared.kept.Kept.{Kept}
 use Rattle.office_plain.proofs.Assembled.{accepts_all}
 use Rattle.office_plain.proofs.kept.Kept.accept.Goals as goal
+
+pub put-requires : goal.put-requires
+put-requires c =
+    subst (λ boxes. HasRoom (box_of boxes c.args.message.session))
+    (sym (ap (λ (k : Kept). k.boxes) c.in_ok-start.ensures.others)) c.requires.room
 
 pub returns : goal.returns
 returns c =

@@ -1,5 +1,7 @@
 use Rattle.std.proofs.Common.{◌≡◌, ◌<◌, ◌^◌, ap, subst, sym, ◌∙◌, Some}
 use Rattle.behaviour_tree.specs.Operations.{operation_at}
+use Rattle.behaviour_tree.specs.PartsView.{parts_of}
+use Rattle.correlation.specs.View.{sessions_of}
 use Rattle.office_core.specs.Accepted.{message_of, message_to}
 use Rattle.office_core.specs.Past.{some_entry, stops}
 use Rattle.office_core.specs.declared.message.Message.{Message}
@@ -7,6 +9,8 @@ use Rattle.office_plain.specs.Accepting.{with_accepted}
 use Rattle.office_plain.specs.Ties.{Ties}
 use Rattle.office_plain.proofs.Accepted.{ties_accepted, fresh_number, unborn_session}
 use Rattle.office_plain.proofs.Acting.{not_true}
+use Rattle.office_plain.proofs.Born.{finds_room}
+use Rattle.office_plain.proofs.FirstValues.{can_start}
 use Rattle.office_plain.proofs.Few.{few_messages}
 use Rattle.office_plain.specs.Views.{asked_view}
 use Rattle.office_plain.specs.View.{setting_of, past_in, entries_of}
@@ -41,8 +45,12 @@ accept-requires c =
     let t = o.tied c.requires.ready in
     record {
       few = few_messages o.kept.messages (past_in o).messages t.messages t.few;
-      fresh = fresh_number (setting_of o) (past_in o) o.kept (o.tied c.requires.ready);
-      unborn = unborn_session (setting_of o) (past_in o) c.args.origin c.args.posted.now m o.kept (o.tied c.requires.ready) becomes;
+      fresh = fresh_number (setting_of o) (past_in o) o.kept t;
+      unborn = unborn_session (setting_of o) (past_in o) c.args.origin c.args.posted.now m o.kept t becomes;
+      free = can_start (setting_of o) (past_in o) c.args.origin c.args.posted.now (asked_view c.in-Some.asked) c.args.session
+          c.args.starts m (sessions_of o.kept.rows) c.requires.way c.requires.next (sym c.in-Some.ensures)
+          c.in_ok-message.ensures t.keys;
+      room = finds_room (parts_of o.program) (entries_of o) o.kept c.args.origin c.args.posted.now m o.legal t becomes;
     }
 
 pub returns-clause-kept : goal.returns-clause-kept

@@ -4,7 +4,9 @@ use Rattle.std.specs.Prelude.{nat_eq, nat_le, slice_get, option_and_then, take, 
 use Rattle.std.specs.List.{list_any, filter_map, cons_option}
 use Rattle.std.proofs.lemmas.Bool.Decides.{nat_tests}
 use Rattle.std.proofs.lemmas.List.Elements.{filter_map-append}
+use Rattle.behaviour_tree.specs.Data.{ProgramParts}
 use Rattle.post_box.specs.Oldest.{waiting}
+use Rattle.post_box.specs.Refusals.{HasRoom}
 use Rattle.post_box.specs.View.{box_of}
 use Rattle.reqresp_book.specs.declared.origin.Origin.{Origin}
 use Rattle.office_core.specs.declared.history.Entry.{Entry}
@@ -16,15 +18,17 @@ use Rattle.office_core.specs.Sessions.{singles_from, started_by, births, service
 use Rattle.office_core.specs.Boxes.{taken, box}
 use Rattle.office_core.specs.Route.{Way, to_session, to_new, refused_for, Asked, asked_of, route}
 use Rattle.office_core.specs.Accepted.{handed_in, origin_of, message_to, message_on, message_of, accepted_in, with_message, then_one, then_all, past_of}
+use Rattle.office_core.specs.Legal.{IsLegal}
 use Rattle.office_core.proofs.Unborn.{unborn_idle}
+use Rattle.office_plain.specs.declared.kept.Kept.{Kept}
+use Rattle.office_plain.specs.Ties.{Ties}
 use Rattle.office_plain.specs.Waits.{waiting_from, waiting_for}
 use Rattle.office_plain.proofs.Births.{none_at_end}
 use Rattle.office_plain.proofs.Lists.{same_of, none_not_some, not_eq}
 use Rattle.office_plain.proofs.Routed.{goes_to, comes}
 use Rattle.office_plain.proofs.Unseen.{last_there}
 use Rattle.office_plain.proofs.Waiting.{box_count}
-use Rattle.office_laws.specs.Laws.{FindsRoom}
-use Rattle.office_laws.proofs.Found.{route_finds}
+use Rattle.office_plain.proofs.Found.{route_finds}
 
 -- ---- lists
 
@@ -155,7 +159,10 @@ few n most h = grind (arith, nat_tests)
 some_room : 0 < 256
 some_room = omega arith
 
-pub finds_room : FindsRoom
+-- a message that is accepted finds room in the box of its session
+pub finds_room : (parts : ProgramParts) (h : List Entry) (kept : Kept) (from : Origin) (q : Posted) (m : Message)
+    → IsLegal (run_of parts) h → Ties (run_of parts) (past_of (run_of parts) h) kept
+    → message_of (run_of parts) (past_of (run_of parts) h) from q ≡ Some m → HasRoom (box_of kept.boxes m.session)
 finds_room parts h kept from q m legal ties goes = by (asked_of w q) goes
   where
     w : Setting
