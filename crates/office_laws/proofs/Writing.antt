@@ -1,5 +1,5 @@
 -- What is kept of sessions answers Bound to the first values of a session.
-use Rattle.std.proofs.Common.{◌≡◌, ◌∷◌, ◌++◌, sym, ap, subst, ◌∙◌, Some}
+use Rattle.std.proofs.Common.{◌≡◌, [], ◌∷◌, ◌++◌, sym, ap, subst, ◌∙◌, Some}
 use Rattle.correlation.specs.declared.bind_reply.BindReply.TheVariants as reply
 use Rattle.correlation.specs.Sessions.{reply_to}
 use Rattle.office_core.specs.Limits.{run_of}
