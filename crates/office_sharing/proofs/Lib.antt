@@ -3,3 +3,4 @@ pub mod Steps
 pub mod Dealing
 pub mod Joining
 pub mod Ending
+pub mod Sending

@@ -3,3 +3,4 @@ mod Allowed
 mod Joined
 mod Telling
 mod Own
+pub mod Sending
