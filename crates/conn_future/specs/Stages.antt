@@ -47,6 +47,10 @@ IsFailed stage = (stage ≡ Stages.ReadFailed) ⊎ (stage ≡ Stages.WriteFailed
 abbrev pub IsOver : Stage → Type 0
 IsOver stage = (stage ≡ Stages.Ended) ⊎ ((stage ≡ Stages.Closed) ⊎ IsFailed stage)
 
+-- nothing is to be done on the connection: a request that is whole has no answer yet, or nothing more passes
+abbrev pub IsAtRest : Stage → Type 0
+IsAtRest stage = IsUnanswered stage ⊎ IsOver stage
+
 -- how a connection that is over stands in the plain form
 abbrev pub plain_ending : Ending → PlainEnding
 plain_ending Ends.Ended = PlainEnds.Ended

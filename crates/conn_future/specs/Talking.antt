@@ -47,7 +47,7 @@ closes_behind (Request body close) = close
 closes_behind (Refused status) = true
 
 -- The reader gave this last, to which this text was told; what goes out is all that is due for it, and so much of it was
--- written, behind all that is due before. The connection closes with it or goes on.
+-- written, after all that is due before. The connection closes with it or goes on.
 pub record IsOut (close : Bool) (sent : Outgoing) (place : Place) (l : Log) : Type 0 where
   pub last : Fed
   pub text : Option (List ℕ)

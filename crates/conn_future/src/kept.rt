@@ -2,7 +2,7 @@
 ghost use Rattle.std.specs.Prelude.{◌≡◌, [], false, None, IfOk};
 ghost use Rattle.http_port.specs.Feeding.{Open, Feeds};
 ghost use Rattle.conn_future.specs.Stages.{stage_of};
-ghost use Rattle.conn_future.specs.Steps.{outgoing, is_over, HandsOut, IsSame, Says};
+ghost use Rattle.conn_future.specs.Steps.{outgoing, HandsOut, IsSame, Says};
 ghost use Rattle.conn_future.specs.declared.stage.Stage.TheVariants as Stages;
 ghost use Rattle.conn_future.specs.declared.stage.Standing.TheVariants as Stands;
 
@@ -74,13 +74,6 @@ impl Kept {
         ensures next { self.new.next ≡ self.old.next }
     {
         self.reader.feed(piece)
-    }
-
-    /// Whether nothing more passes.
-    pub(crate) fn is_over(&self) -> bool
-        ensures { result ≡ is_over self.now.next }
-    {
-        matches!(self.next, Standing::Over(_))
     }
 
     /// What is said to the request that was handed out last, of which a response is made next.

@@ -1,9 +1,9 @@
 //! A turn of a connection: one call of its wire at most, and what it calls for.
 ghost use Rattle.std.specs.Prelude.{◌≡◌, IfOk, OnErr};
 ghost use Rattle.http_port.specs.Talk.{answer as answer_text};
-ghost use Rattle.conn_future.specs.Stages.{stage_of};
+ghost use Rattle.conn_future.specs.Stages.{stage_of, IsAtRest};
 ghost use Rattle.conn_future.specs.Talking.{seen, TalksOn};
-ghost use Rattle.conn_future.specs.Steps.{CallsOn, Stops, TakesUp, FollowsOn, IsOutOn, Finishes, IsMade};
+ghost use Rattle.conn_future.specs.Steps.{CallsOn, Stops, LeavesLess, TakesUp, FollowsOn, IsOutOn, Finishes, IsMade, unmade};
 ghost use Rattle.conn_future.specs.declared.stage.Stage.TheVariants as Stages;
 ghost use Rattle.conn_future.specs.declared.stage.Standing.TheVariants as Stands;
 ghost use Rattle.conn_future.specs.declared.turn.Turn.TheVariants as Turns;
@@ -44,6 +44,9 @@ pub(crate) fn take_turn<W: PollWire>(wire: &mut W, kept: &mut Kept) -> Result<Tu
         (λ turn. Stops turn (W.told wire.old).waits (W.told wire.new).waits (stage_of kept.new.next)) }
     ensures spent { OnErr result (((W.told wire.new).waits ≡ (W.told wire.old).waits)
         × (kept.new.next ≡ Stands.Spent)) }
+    ensures less { IfOk result (λ turn. LeavesLess turn kept.old kept.new) }
+    ensures rests { IsAtRest (stage_of kept.old.next) → (kept.new ≡ kept.old) × (wire.new ≡ wire.old) }
+    ensures owes { stage_of kept.new.next ≡ Stages.Owes → stage_of kept.old.next ≡ Stages.Owes }
 {
     match &kept.next {
         Standing::Waits => read_on(wire, kept),
@@ -72,6 +75,8 @@ fn read_on<W: PollWire>(wire: &mut W, kept: &mut Kept) -> Result<Turn, AllocErro
         (λ turn. Stops turn (W.told wire.old).waits (W.told wire.new).waits (stage_of kept.new.next)) }
     ensures spent { OnErr result (((W.told wire.new).waits ≡ (W.told wire.old).waits)
         × (kept.new.next ≡ Stands.Spent)) }
+    ensures less { IfOk result (λ turn. LeavesLess turn kept.old kept.new) }
+    ensures made { unmade kept.new.next ≡ 0 }
 {
     kept.stand(Standing::Spent);
     kept.read.reserve(CHUNK)?;
@@ -112,7 +117,7 @@ fn answer_bytes(alloc: Global, said: &Option<Bytes>, close: bool) -> Result<Byte
     }
 }
 
-/// Writes a piece of the text that goes out, if there is room for one, and goes on behind it.
+/// Writes a piece of the text that goes out, if there is room for one, and goes on after it.
 fn write_on<W: PollWire>(wire: &mut W, kept: &mut Kept, close: bool) -> Result<Turn, AllocError>
     requires { kept.old.next ≡ Stands.Sends close }
     ensures talks { TalksOn (seen kept.old (W.told wire.old)) (seen kept.new (W.told wire.new)) }
@@ -121,8 +126,14 @@ fn write_on<W: PollWire>(wire: &mut W, kept: &mut Kept, close: bool) -> Result<T
         (λ turn. Stops turn (W.told wire.old).waits (W.told wire.new).waits (stage_of kept.new.next)) }
     ensures spent { OnErr result (((W.told wire.new).waits ≡ (W.told wire.old).waits)
         × (kept.new.next ≡ Stands.Spent)) }
+    ensures less { IfOk result (λ turn. LeavesLess turn kept.old kept.new) }
+    ensures made { unmade kept.new.next ≡ 0 }
 {
     kept.stand(Standing::Spent);
+    if kept.due.is_out() {
+        // It never is: no text that goes out is empty, and one that is out goes no further.
+        return Ok(finish(wire, kept, Ending::Closed));
+    }
     let rest = kept.due.left();
     kept.written.reserve(rest.len())?;
     match wire.try_write(rest) {
@@ -150,6 +161,7 @@ fn go_behind<W: PollWire>(wire: &mut W, kept: &mut Kept, close: bool) -> Result<
         (λ turn. Stops turn (W.told wire.old).waits (W.told wire.new).waits (stage_of kept.new.next)) }
     ensures spent { OnErr result (((W.told wire.new).waits ≡ (W.told wire.old).waits)
         × (kept.new.next ≡ Stands.Spent)) }
+    ensures made { unmade kept.new.next ≡ 0 }
 {
     if !kept.due.is_out() {
         kept.stand(Standing::Sends { close });
@@ -169,6 +181,7 @@ fn go_on(kept: &mut Kept, piece: &[u8]) -> Result<(), AllocError>
     ensures read { kept.new.read.items ≡ kept.old.read.items }
     ensures written { kept.new.written.items ≡ kept.old.written.items }
     ensures spent { OnErr result (kept.new.next ≡ Stands.Spent) }
+    ensures made { unmade kept.new.next ≡ 0 }
 {
     let fed = kept.feed(piece)?;
     take_up(kept, fed)
@@ -181,6 +194,7 @@ fn take_up(kept: &mut Kept, fed: Fed) -> Result<(), AllocError>
     ensures read { kept.new.read.items ≡ kept.old.read.items }
     ensures written { kept.new.written.items ≡ kept.old.written.items }
     ensures spent { OnErr result (kept.new.next ≡ Stands.Spent) }
+    ensures made { unmade kept.new.next ≡ 0 }
 {
     match fed {
         Fed::NotYet => {

@@ -1,5 +1,5 @@
 -- A piece more of the text is out, or the wire waits or failed.
-use Rattle.std.proofs.Common.{rules, ◌≡◌, ◌++◌, inr, refl, sym, ap, ◌∙◌, subst, [], take, drop}
+use Rattle.std.proofs.Common.{rules, ◌≡◌, ◌<◌, ◌≤◌, ◌++◌, length, length-append, arith, inr, refl, sym, ap, ◌∙◌, subst, [], take, drop}
 use Rattle.std.specs.Io.KnownBytes.{Appends}
 use Rattle.http_connection.specs.Talking.{log_of}
 use Rattle.http_connection.specs.Prompt.{OnlyWrites}
@@ -8,10 +8,11 @@ use Rattle.outside_polling.specs.Polls.{PollTold}
 use Rattle.conn_future.specs.Outgoing.{Outgoing}
 use Rattle.conn_future.specs.Stages.{stage_of}
 use Rattle.conn_future.specs.Talking.{seen, plain}
-use Rattle.conn_future.proofs.Writing.{moved}
-use Rattle.conn_future.proofs.Sending.{Wrote, sending, wrote_carried, wrote_out, cut_now}
+use Rattle.conn_future.specs.Steps.{unmade}
+use Rattle.conn_future.proofs.Writing.{moved, some_left}
+use Rattle.conn_future.proofs.Sending.{Wrote, sending, not_none, wrote_carried, wrote_out, cut_now}
 use Rattle.conn_future.proofs.Standing.{spends_sending}
-use Rattle.conn_future.proofs.Turning.{stops_since, over_stops, one_write, taken_count, nothing_called}
+use Rattle.conn_future.proofs.Turning.{stops_since, over_stops, one_write, taken_count, nothing_called, write_less, any_less, over_less}
 use Rattle.conn_future.proofs.turn.write_on.Goals as goal
 
 pub returns-in_err-reserve-clause-talks : goal.returns-in_err-reserve-clause-talks
@@ -66,7 +67,7 @@ pub returns-in-Err-clause-talks : goal.returns-in-Err-clause-talks
 returns-in-Err-clause-talks g c = λ first bodies texts h.
     let was = seen c.args.kept.now (g.W.PollWire.told c.args.wire.now) in
     let mid = seen (record c.stand.new.self { written = c.reserve.new.self }) (g.W.PollWire.told c.try_write.new.self) in
-    let now = seen c.finish.new.kept (g.W.PollWire.told c.finish.new.wire) in
+    let now = seen c.finish-in-Err.new.kept (g.W.PollWire.told c.finish-in-Err.new.wire) in
     let did = c.in-Err.ensures.writes.0 in
     let at = sending first was c.args.close bodies texts h c.requires in
     cut_now first was mid now c.args.close bodies texts at.0 at.1 at.2
@@ -81,7 +82,7 @@ returns-in-Err-clause-talks g c = λ first bodies texts h.
       written = search rules;
       reader = c.stand.ensures.same.reader;
     })
-    c.finish.ensures.finishes
+    c.finish-in-Err.ensures.finishes
 
 pub returns-in_err-reserve-clause-called : goal.returns-in_err-reserve-clause-called
 returns-in_err-reserve-clause-called g c = λ first bodies texts h.
@@ -117,12 +118,12 @@ returns-in-Ok-Done-clause-called g c = λ first bodies texts h.
 pub returns-in-Err-clause-called : goal.returns-in-Err-clause-called
 returns-in-Err-clause-called g c = λ first bodies texts h.
     let was = seen c.args.kept.now (g.W.PollWire.told c.args.wire.now) in
-    let now = seen c.finish.new.kept (g.W.PollWire.told c.finish.new.wire) in
+    let now = seen c.finish-in-Err.new.kept (g.W.PollWire.told c.finish-in-Err.new.wire) in
     called_writes was.line.calls now.line.calls (log_of (plain was) bodies texts) (log_of (plain now) bodies texts)
-    (subst (λ l. OnlyWrites was.line.calls l was.kept.written.items now.kept.written.items) (sym c.finish.ensures.calls)
+    (subst (λ l. OnlyWrites was.line.calls l was.kept.written.items now.kept.written.items) (sym c.finish-in-Err.ensures.calls)
     (one_write was.line.calls (g.W.PollWire.told c.try_write.new.self).wire.calls was.kept.written.items now.kept.written.items [] 0
-    c.in-Err.ensures.writes.0.calls refl (c.finish.ensures.finishes.plainly.written ∙ (search rules))))
-    (c.finish.ensures.finishes.plainly.read ∙ c.stand.ensures.same.read)
+    c.in-Err.ensures.writes.0.calls refl (c.finish-in-Err.ensures.finishes.plainly.written ∙ (search rules))))
+    (c.finish-in-Err.ensures.finishes.plainly.read ∙ c.stand.ensures.same.read)
 
 pub returns-in-Ok-NotYet-clause-stops : goal.returns-in-Ok-NotYet-clause-stops
 returns-in-Ok-NotYet-clause-stops g c = (ap (λ (t : PollTold). t.waits) (rw c.in-Ok-NotYet.field-0-is at c.in-Ok-NotYet.ensures.writes).1, inr (ap stage_of c.stand-in-Ok-NotYet.ensures.next))
@@ -134,5 +135,62 @@ returns-in-Ok-Done-clause-stops g c =
 
 pub returns-in-Err-clause-stops : goal.returns-in-Err-clause-stops
 returns-in-Err-clause-stops g c =
+    over_stops c.finish-in-Err.result (g.W.PollWire.told c.args.wire.now).waits (g.W.PollWire.told c.finish-in-Err.new.wire).waits c.finish-in-Err.new.kept.next _
+    c.finish-in-Err.ensures.turn (c.finish-in-Err.ensures.waits ∙ c.in-Err.ensures.writes.1) c.finish-in-Err.ensures.finishes.next
+
+pub returns-in-Ok-Done-clause-less : goal.returns-in-Ok-Done-clause-less
+returns-in-Ok-Done-clause-less g c =
+    let was = c.args.kept.now in
+    let n = c.in-Ok-Done.count in
+    let rest = c.left-rest.result.now in
+    let did = (rw c.in-Ok-Done.field-0-is at c.in-Ok-Done.ensures.writes).0 in
+    let v = c.extend_from_slice.new.self in
+    let some = did.some (subst (λ l. 0 < length l) (sym c.left-rest.ensures) (some_left _ (sym c.is_out.ensures ∙ c.if-is_out.false))) in
+    let grown : v.items ≡ was.written.items ++ take n rest = search rules in
+    let longer = ap length grown ∙ length-append was.written.items (take n rest) in
+    let count = taken_count n rest rest (rw c.in-Ok-Done.field-0-is at c.in-Ok-Done.ensures.bound) refl in
+    let same = ap length c.go_behind.ensures.written in
+    any_less c.go_behind.result was c.go_behind.new.kept
+    (write_less was c.go_behind.new.kept
+    (omega (arith, longer, count, same, some))
+    (omega (arith, same, v.ok.0, v.ok.1, v.small))
+    (c.go_behind.ensures.read ∙ c.stand.ensures.same.read)
+    c.go_behind.ensures.made)
+
+pub returns-in-Err-clause-less : goal.returns-in-Err-clause-less
+returns-in-Err-clause-less g c = over_less c.finish-in-Err.result c.args.kept.now c.finish-in-Err.new.kept c.finish-in-Err.ensures.turn
+
+pub returns-then-is_out-clause-talks : goal.returns-then-is_out-clause-talks
+returns-then-is_out-clause-talks g c = λ first bodies texts h.
+    let was = seen c.args.kept.now (g.W.PollWire.told c.args.wire.now) in
+    absurd (not_none was.kept.due.left c.stand.new.self.due.left (ap (λ (d : Outgoing). d.left) c.stand.ensures.due)
+    (sending first was c.args.close bodies texts h c.requires).2 (sym c.is_out.ensures ∙ c.if-is_out.true))
+
+pub returns-then-is_out-clause-called : goal.returns-then-is_out-clause-called
+returns-then-is_out-clause-called g c = λ first bodies texts h.
+    let was = seen c.args.kept.now (g.W.PollWire.told c.args.wire.now) in
+    absurd (not_none was.kept.due.left c.stand.new.self.due.left (ap (λ (d : Outgoing). d.left) c.stand.ensures.due)
+    (sending first was c.args.close bodies texts h c.requires).2 (sym c.is_out.ensures ∙ c.if-is_out.true))
+
+pub returns-then-is_out-clause-stops : goal.returns-then-is_out-clause-stops
+returns-then-is_out-clause-stops g c =
     over_stops c.finish.result (g.W.PollWire.told c.args.wire.now).waits (g.W.PollWire.told c.finish.new.wire).waits c.finish.new.kept.next _
-    c.finish.ensures.turn (c.finish.ensures.waits ∙ c.in-Err.ensures.writes.1) c.finish.ensures.finishes.next
+    c.finish.ensures.turn c.finish.ensures.waits c.finish.ensures.finishes.next
+
+pub returns-then-is_out-clause-less : goal.returns-then-is_out-clause-less
+returns-then-is_out-clause-less g c = over_less c.finish.result c.args.kept.now c.finish.new.kept c.finish.ensures.turn
+
+pub returns-then-is_out-clause-made : goal.returns-then-is_out-clause-made
+returns-then-is_out-clause-made g c = ap unmade c.finish.ensures.finishes.next
+
+pub returns-in_err-reserve-clause-made : goal.returns-in_err-reserve-clause-made
+returns-in_err-reserve-clause-made g c = ap unmade c.stand.ensures.next
+
+pub returns-in-Ok-NotYet-clause-made : goal.returns-in-Ok-NotYet-clause-made
+returns-in-Ok-NotYet-clause-made g c = ap unmade c.stand-in-Ok-NotYet.ensures.next
+
+pub returns-in-Ok-Done-clause-made : goal.returns-in-Ok-Done-clause-made
+returns-in-Ok-Done-clause-made g c = c.go_behind.ensures.made
+
+pub returns-in-Err-clause-made : goal.returns-in-Err-clause-made
+returns-in-Err-clause-made g c = ap unmade c.finish-in-Err.ensures.finishes.next
