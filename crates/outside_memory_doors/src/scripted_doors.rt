@@ -8,6 +8,7 @@ ghost use Rattle.outside_doors.specs.Returns.{none_told, try_told};
 use crate::queue::Queue;
 use crate::scripted_door::ScriptedDoor;
 use outside_doors::{Book, CountedWire, Counts, DoorCounts, Doors, Return, Try};
+use outside_polling::EarlyWire;
 use outside_traits::{Failed, ScriptedWire};
 use std::alloc::{AllocError, Global};
 use std::marker::Model;
@@ -18,7 +19,7 @@ use std::marker::Model;
 pub struct ScriptedDoors {
     alloc: Global,
     coming: Queue<Option<ScriptedDoor>>,
-    book: Book<ScriptedWire>,
+    book: Book<EarlyWire<ScriptedWire>>,
 }
 
 impl Model for ScriptedDoors {
@@ -83,7 +84,7 @@ impl ScriptedDoors {
     }
 
     /// The wires that came back in order: all, where they are told.
-    pub fn returned(&self) -> &[Return<ScriptedWire>]
+    pub fn returned(&self) -> &[Return<EarlyWire<ScriptedWire>>]
         ensures { IfSome self.now.book.returned (λ wires. result.now ≡ wires) }
     {
         self.book.wires()
@@ -126,7 +127,7 @@ impl Doors for ScriptedDoors {
         Ok(door.anew(place))
     }
 
-    fn wire_back(&mut self, wire: CountedWire<ScriptedWire>) {
+    fn wire_back(&mut self, wire: CountedWire<EarlyWire<ScriptedWire>>) {
         self.book.wire_back(wire);
     }
 

@@ -23,7 +23,7 @@ pub trait PollWire {
         ensures reads { Polls result (told self.old) (told self.new)
             (λ answer. ReadsWire (length into.old) into.new answer) };
 
-    /// Takes a front of the bytes, if there is room for some.
+    /// Takes a prefix of the bytes, if there is room for some.
     fn try_write(&mut self, from: &[u8]) -> Result<Ready, Failed>
         ensures bound { WritesAtMost (done result) from.now }
         ensures writes { Polls result (told self.old) (told self.new) (λ answer. WritesWire from.now answer) };

@@ -2,6 +2,7 @@
 
 use crate::outside::doors::visits::add_bytes;
 use outside_doors::{Counts, DoorCounts, Return, Try};
+use outside_polling::EarlyWire;
 use outside_traits::{ScriptedWire, UnfailingWire};
 use std::alloc::{AllocError, Global};
 
@@ -78,28 +79,32 @@ fn tell_close(is_closed: bool, said: &mut String) -> Result<(), AllocError> {
 
 /// The wires that came back, a line each.
 pub fn tell_unfailed(
-    returned: &[Return<UnfailingWire>],
+    alloc: Global,
+    returned: &[Return<EarlyWire<UnfailingWire>>],
     said: &mut String,
 ) -> Result<(), AllocError> {
     for back in returned {
-        let wire = back.wire();
+        let wire = back.wire().wire();
         tell_bytes(wire.given(), wire.taken(), said)?;
         tell_failures(back.is_lost(), back.is_cut(), said)?;
         tell_end(back.has_ended(), said)?;
+        tell_waits(alloc, back.waits(), said)?;
     }
     Ok(())
 }
 
 /// The same of wires that follow a script.
 pub fn tell_scripted(
-    returned: &[Return<ScriptedWire>],
+    alloc: Global,
+    returned: &[Return<EarlyWire<ScriptedWire>>],
     said: &mut String,
 ) -> Result<(), AllocError> {
     for back in returned {
-        let wire = back.wire();
+        let wire = back.wire().wire();
         tell_bytes(wire.given(), wire.taken(), said)?;
         tell_failures(back.is_lost(), back.is_cut(), said)?;
         tell_end(back.has_ended(), said)?;
+        tell_waits(alloc, back.waits(), said)?;
     }
     Ok(())
 }
@@ -129,4 +134,14 @@ fn tell_end(has_ended: bool, said: &mut String) -> Result<(), AllocError> {
         said.push_str(" ended")?;
     }
     Ok(())
+}
+
+/// How often it could move nothing yet, where it ever was so.
+fn tell_waits(alloc: Global, waits: u64, said: &mut String) -> Result<(), AllocError> {
+    if waits == 0 {
+        return Ok(());
+    }
+    let digits = waits.to_string(alloc)?;
+    said.push_str(" waited ")?;
+    said.push_str(digits.as_str())
 }
