@@ -1,28 +1,27 @@
 -- What a turn comes to, and the calls of its wire.
-use Rattle.std.proofs.Common.{◌≡◌, ◌≤◌, ◌⊎◌, inl, inr, ℕ, true, false, List, [], ◌∷◌, ◌++◌, length, take, sym, refl, subst, arith}
-use Rattle.std.specs.Prelude.{Option, Result, IfOk}
+use Rattle.std.proofs.Common.{◌≡◌, ◌≤◌, ◌<◌, ◌^◌, ◌⊎◌, inl, inr, ℕ, List, [], ◌∷◌, ◌++◌, length, take, sym, refl, ap, ◌∙◌, subst, arith}
+use Rattle.std.specs.Prelude.{Option, Result, Ok, Err, IfOk}
 use Rattle.std.proofs.lemmas.List.{length-take-le}
 use Rattle.outside_traits.specs.Told.{Lists, WireTold}
 use Rattle.outside_traits.specs.declared.calls.WireCall.{WireCall}
 use Rattle.outside_traits.specs.declared.calls.WireCall.TheVariants.{Wrote}
 use Rattle.outside_polling.specs.Polls.{once_more}
-use Rattle.http_connection.specs.Stages.{stage_of as plain_stage_of}
-use Rattle.http_connection.specs.Talking.{IsOpen, WireTells, log_of}
+use Rattle.http_connection.specs.Talking.{log_of}
 use Rattle.http_connection.specs.Prompt.{OnlyWrites}
 use Rattle.http_connection.specs.Steps.{Called}
-use Rattle.http_connection.proofs.Passing.{carried_of, carried_on}
 use Rattle.http_connection.proofs.Calls.{called_nothing, called_on, is_prompt}
+use Rattle.conn_future.specs.declared.kept.Kept.{Kept}
 use Rattle.conn_future.specs.declared.stage.Stage.{Stage}
+use Rattle.conn_future.specs.declared.stage.Stage.TheVariants as Stages
 use Rattle.conn_future.specs.declared.stage.Ending.{Ending}
 use Rattle.conn_future.specs.declared.stage.Ending.TheVariants as Ends
 use Rattle.conn_future.specs.declared.stage.Standing.{Standing}
 use Rattle.conn_future.specs.declared.stage.Standing.TheVariants as Stands
 use Rattle.conn_future.specs.declared.turn.Turn.{Turn}
 use Rattle.conn_future.specs.declared.turn.Turn.TheVariants as Turns
-use Rattle.conn_future.specs.Stages.{IsMoving, IsUnanswered, IsOver, plain_standing, stage_behind, stage_of}
+use Rattle.conn_future.specs.Stages.{IsMoving, IsUnanswered, IsOver, IsAtRest, stage_behind, stage_of}
 use Rattle.conn_future.specs.Talking.{Seen, plain, IsTalking, TalksOn, StaysPrompt}
-use Rattle.conn_future.specs.Steps.{is_over, CallsOn, IsSame, Stops}
-use Rattle.conn_future.proofs.Standing.{stays, spent_now}
+use Rattle.conn_future.specs.Steps.{unmade, left_to_do, CallsOn, IsSame, LeavesLess, Stops}
 
 -- ---- waits
 
@@ -43,35 +42,80 @@ pub over_stops : (turn : Turn) (before now : ℕ) (next : Standing) (ending : En
 over_stops turn before now next ending e waits stands =
     subst (λ t. Stops t before now (stage_of next)) (sym e) (waits, subst (λ n. IsOver (stage_of n)) (sym stands) (over_stage ending))
 
--- nothing more passes on one that is over
-pub is_over_stage : (next : Standing) → is_over next ≡ true → IsOver (stage_of next)
-is_over_stage Stands.Waits e = absurd (cc)
-is_over_stage (Stands.Holds body close) e = absurd (cc)
-is_over_stage (Stands.Owes close) e = absurd (cc)
-is_over_stage (Stands.Says close) e = absurd (cc)
-is_over_stage (Stands.Sends close) e = absurd (cc)
-is_over_stage (Stands.Over ending) e = over_stage ending
-is_over_stage Stands.Spent e = absurd (cc)
+-- ---- turns that go on
 
--- ---- giving up
+-- a turn that made a response
+pub made_less : (was now : Kept) → IsSame was now → unmade was.next ≡ 1 → unmade now.next ≡ 0 → left_to_do now < left_to_do was
+made_less was now s before after = let r = ap length s.read in let w = ap length s.written in omega (arith, r, w, before, after)
 
-open_at : (first line : WireTold) (read : List ℕ) (next : Standing) → is_over next ≡ false → WireTells (plain_stage_of (plain_standing next)) first read line
-    → IsOpen first read line
-open_at first line read Stands.Waits e w = w
-open_at first line read (Stands.Holds body close) e w = w
-open_at first line read (Stands.Owes close) e w = w
-open_at first line read (Stands.Says close) e w = w
-open_at first line read (Stands.Sends close) e w = w
-open_at first line read (Stands.Over ending) e w = absurd (cc)
-open_at first line read Stands.Spent e w = w
+-- a turn that read something, as memory has an end
+pub read_less : (was now : Kept) → length was.read.items < length now.read.items → length now.read.items ≤ 2 ^ 63 → now.written.items ≡ was.written.items
+    → unmade now.next ≡ 0 → left_to_do now < left_to_do was
+read_less was now longer small same after = let w = ap length same in omega (arith, longer, small, w, after)
 
--- a connection that is not over gives up
-pub gives_up : (first : WireTold) (was now : Seen) (bodies : List (List ℕ)) (texts : List (Option (List ℕ))) → IsTalking first was bodies texts
-    → is_over was.kept.next ≡ false → IsSame was.kept now.kept → now.line ≡ was.line → now.kept.next ≡ Stands.Spent → IsTalking first now bodies texts
-gives_up first was now bodies texts t e s line next =
-    spent_now first now bodies texts
-    (carried_on first (plain was) (plain now)
-    (carried_of first (plain was) bodies texts t.talks (open_at first was.line was.kept.read.items was.kept.next e t.talks.wire)) (stays was now s line)) next
+-- a turn that wrote something
+pub write_less : (was now : Kept) → length was.written.items < length now.written.items → length now.written.items ≤ 2 ^ 63 → now.read.items ≡ was.read.items
+    → unmade now.next ≡ 0 → left_to_do now < left_to_do was
+write_less was now longer small same after = let r = ap length same in omega (arith, longer, small, r, after)
+
+any_turn_less : (turn : Turn) (was now : Kept) → left_to_do now < left_to_do was → LeavesLess turn was now
+any_turn_less Turns.GoesOn was now h = h
+any_turn_less Turns.Waits was now h = tt
+any_turn_less Turns.Owes was now h = tt
+any_turn_less Turns.Over was now h = tt
+
+-- less is left to do, whatever the turn came to
+pub any_less : {E : Type 0} (result : Result Turn E) (was now : Kept) → left_to_do now < left_to_do was → IfOk result (λ turn. LeavesLess turn was now)
+any_less (Ok turn) was now h = any_turn_less turn was now h
+any_less (Err e) was now h = tt
+
+-- a turn that does not go on
+pub over_less : (turn : Turn) (was now : Kept) → turn ≡ Turns.Over → LeavesLess turn was now
+over_less turn was now e = subst (λ t. LeavesLess t was now) (sym e) tt
+
+-- no answer is owed then
+pub unowed : (next : Standing) → unmade next ≡ 0 → stage_of next ≡ Stages.Owes → ⊥
+unowed Stands.Waits e o = cc
+unowed (Stands.Holds body close) e o = cc
+unowed (Stands.Owes close) e o = omega (arith, e)
+unowed (Stands.Says close) e o = omega (arith, e)
+unowed (Stands.Sends close) e o = cc
+unowed (Stands.Over Ends.Ended) e o = cc
+unowed (Stands.Over Ends.Closed) e o = cc
+unowed (Stands.Over Ends.ReadFailed) e o = cc
+unowed (Stands.Over Ends.WriteFailed) e o = cc
+unowed Stands.Spent e o = cc
+
+-- ---- rest
+
+reads_unrested : IsAtRest Stages.Reads → ⊥
+reads_unrested (inl (inl e)) = cc
+reads_unrested (inl (inr e)) = cc
+reads_unrested (inr (inl e)) = cc
+reads_unrested (inr (inr (inl e))) = cc
+reads_unrested (inr (inr (inr (inl e)))) = cc
+reads_unrested (inr (inr (inr (inr e)))) = cc
+
+writes_unrested : IsAtRest Stages.Writes → ⊥
+writes_unrested (inl (inl e)) = cc
+writes_unrested (inl (inr e)) = cc
+writes_unrested (inr (inl e)) = cc
+writes_unrested (inr (inr (inl e))) = cc
+writes_unrested (inr (inr (inr (inl e)))) = cc
+writes_unrested (inr (inr (inr (inr e)))) = cc
+
+-- one that reads or writes next is not at rest
+pub unrested : (stage : Stage) → IsMoving stage → IsAtRest stage → ⊥
+unrested stage (inl e) r = reads_unrested (subst IsAtRest e r)
+unrested stage (inr e) r = writes_unrested (subst IsAtRest e r)
+
+-- one that was at rest stays as it was
+pub rests_on : {W : Type 0} (was mid now : Kept) (w x y : W) → (IsAtRest (stage_of was.next) → (mid ≡ was) × (x ≡ w))
+    → (IsAtRest (stage_of mid.next) → (now ≡ mid) × (y ≡ x)) → IsAtRest (stage_of was.next) → (now ≡ was) × (y ≡ w)
+rests_on was mid now w x y first then r =
+    let same = first r in
+    let stays = then (subst (λ (k : Kept). IsAtRest (stage_of k.next)) (sym same.0) r) in
+    (stays.0 ∙ same.0, stays.1 ∙ same.1)
 
 -- ---- calls of the wire
 

@@ -1,5 +1,5 @@
 -- How a text goes out.
-use Rattle.std.proofs.Common.{◌≡◌, ◌<◌, ◌==◌, ℕ, Bool, true, false, List, [], ◌∷◌, ◌++◌, length, sym, refl, ap, ◌∙◌, subst, arith, append-nil}
+use Rattle.std.proofs.Common.{◌≡◌, ◌≢◌, ◌<◌, ◌==◌, ℕ, Bool, true, false, List, [], ◌∷◌, ◌++◌, length, sym, refl, ap, ◌∙◌, subst, arith, append-nil}
 use Rattle.std.specs.Prelude.{Option, None, Some, MatchOption}
 use Rattle.std.specs.Io.KnownBytes.{Appends}
 use Rattle.outside_traits.specs.Told.{WireTold}
@@ -15,11 +15,12 @@ use Rattle.http_connection.specs.Talking.{IsTalking as IsPlainTalking, Log, log,
 use Rattle.http_connection.specs.Steps.{IsCarried, IsFed}
 use Rattle.http_connection.proofs.Passing.{Stays, Owed, carried_on, fed_on, holding_fed, asked_talks, owed, spent_talks}
 use Rattle.conn_future.specs.declared.stage.Stage.TheVariants as Stages
+use Rattle.conn_future.specs.declared.stage.Ending.TheVariants as Ends
 use Rattle.conn_future.specs.declared.stage.Standing.{Standing}
 use Rattle.conn_future.specs.declared.stage.Standing.TheVariants as Stands
 use Rattle.conn_future.specs.declared.kept.Kept.{Kept}
 use Rattle.conn_future.specs.Outgoing.{Outgoing}
-use Rattle.conn_future.specs.Stages.{plain_standing, stage_of}
+use Rattle.conn_future.specs.Stages.{plain_standing, stage_of, is_sending}
 use Rattle.conn_future.specs.Talking.{Seen, plain, closes_behind, IsOut, IsWriting, IsTalking}
 use Rattle.conn_future.specs.Steps.{outgoing, IsSame, HandsOut}
 use Rattle.conn_future.proofs.Standing.{stays, talks_at, carried_spent, spent_now}
@@ -29,7 +30,7 @@ use Rattle.conn_future.proofs.Standing.{stays, talks_at, carried_spent, spent_no
 pub response_some : (status : ℕ) (body : List ℕ) (close : Bool) → 0 < length (response status body close)
 response_some status body close = omega arith
 
-interim_some : 0 < length interim
+pub interim_some : 0 < length interim
 interim_some = omega arith
 
 pub answer_some : (text : Option (List ℕ)) (close : Bool) → 0 < length (answer text close)
@@ -39,6 +40,10 @@ answer_some None close = response_some 204 [] close
 pub some_left : (left : List ℕ) → length left == 0 ≡ false → 0 < length left
 some_left [] e = absurd (cc)
 some_left (x ∷ left) e = omega arith
+
+-- a connection on which no text goes out
+pub unsent_at : (now next : Standing) (left : List ℕ) → now ≡ next → is_sending next ≡ false → is_sending now ≡ true → 0 < length left
+unsent_at now next left e none sends = absurd (let f = sym sends ∙ ap is_sending e ∙ none in cc)
 
 -- ---- what stays as it was
 
@@ -131,24 +136,29 @@ hands_out first was now bodies texts result t h s said due line = by_next was.ke
     by_next (Stands.Over ending) e x = same x.0 (x.1 ∙ sym e)
     by_next Stands.Spent e x = same x.0 (x.1 ∙ sym e)
 
--- how it stands then
-pub stage_handed : (was : Standing) (result : Option (List ℕ)) (now : Standing) → HandsOut was result now
-    → MatchOption result (stage_of now ≡ stage_of was) (λ _. (stage_of was ≡ Stages.Asks) × (stage_of now ≡ Stages.Owes))
+-- how it stood before, and how it stands then
+abbrev Hands : Standing → Standing → Option (List ℕ) → Type 0
+Hands was now result = MatchOption result
+    ((stage_of now ≡ stage_of was) × (stage_of was ≢ Stages.Asks))
+    (λ _. (stage_of was ≡ Stages.Asks) × (stage_of now ≡ Stages.Owes))
+
+pub stage_handed : (was : Standing) (result : Option (List ℕ)) (now : Standing) → HandsOut was result now → Hands was now result
 stage_handed was result now h = by_next was h
   where
-    same : (was : Standing) → result ≡ None → now ≡ was → MatchOption result (stage_of now ≡ stage_of was) (λ _. (stage_of was ≡ Stages.Asks) × (stage_of now ≡ Stages.Owes))
-    same was none e =
-        subst (λ r. MatchOption r (stage_of now ≡ stage_of was) (λ _. (stage_of was ≡ Stages.Asks) × (stage_of now ≡ Stages.Owes))) (sym none) (ap stage_of e)
+    same : (was : Standing) → result ≡ None → now ≡ was → (stage_of was ≢ Stages.Asks) → Hands was now result
+    same was none e unasked = subst (Hands was now) (sym none) (ap stage_of e, unasked)
 
-    by_next : (was : Standing) → HandsOut was result now → MatchOption result (stage_of now ≡ stage_of was) (λ _. (stage_of was ≡ Stages.Asks) × (stage_of now ≡ Stages.Owes))
-    by_next Stands.Waits x = same Stands.Waits x.0 x.1
-    by_next (Stands.Holds body close) x =
-        subst (λ r. MatchOption r (stage_of now ≡ Stages.Asks) (λ _. (Stages.Asks ≡ Stages.Asks) × (stage_of now ≡ Stages.Owes))) (sym x.0) (refl, ap stage_of x.1)
-    by_next (Stands.Owes close) x = same (Stands.Owes close) x.0 x.1
-    by_next (Stands.Says close) x = same (Stands.Says close) x.0 x.1
-    by_next (Stands.Sends close) x = same (Stands.Sends close) x.0 x.1
-    by_next (Stands.Over ending) x = same (Stands.Over ending) x.0 x.1
-    by_next Stands.Spent x = same Stands.Spent x.0 x.1
+    by_next : (was : Standing) → HandsOut was result now → Hands was now result
+    by_next Stands.Waits x = same Stands.Waits x.0 x.1 (λ e. cc)
+    by_next (Stands.Holds body close) x = subst (Hands (Stands.Holds body close) now) (sym x.0) (refl, ap stage_of x.1)
+    by_next (Stands.Owes close) x = same (Stands.Owes close) x.0 x.1 (λ e. cc)
+    by_next (Stands.Says close) x = same (Stands.Says close) x.0 x.1 (λ e. cc)
+    by_next (Stands.Sends close) x = same (Stands.Sends close) x.0 x.1 (λ e. cc)
+    by_next (Stands.Over Ends.Ended) x = same (Stands.Over Ends.Ended) x.0 x.1 (λ e. cc)
+    by_next (Stands.Over Ends.Closed) x = same (Stands.Over Ends.Closed) x.0 x.1 (λ e. cc)
+    by_next (Stands.Over Ends.ReadFailed) x = same (Stands.Over Ends.ReadFailed) x.0 x.1 (λ e. cc)
+    by_next (Stands.Over Ends.WriteFailed) x = same (Stands.Over Ends.WriteFailed) x.0 x.1 (λ e. cc)
+    by_next Stands.Spent x = same Stands.Spent x.0 x.1 (λ e. cc)
 
 -- what goes out for what the reader gave last, of which nothing is out
 begun : (last : Fed) (text : Option (List ℕ)) (place : Place) (l : Log) → HasGiven last place l

@@ -1,6 +1,7 @@
 -- These definitions serve the proofs alone: no promise of a public call speaks of them.
 -- What a connection does turn by turn.
-use Rattle.std.specs.Prelude.{◌≡◌, ℕ, Bool, true, false, List, [], Option, None, Some, Result, Ok, Err}
+use Rattle.std.specs.Prelude.{◌≡◌, ◌<◌, ◌+◌, ◌-◌, ◌^◌, ℕ, Bool, true, false, List, [], length}
+use Rattle.std.specs.Prelude.{Option, None, Some, Result, Ok, Err}
 use Rattle.outside_traits.specs.Told.{WireTold}
 use Rattle.outside_polling.specs.Polls.{once_more}
 use Rattle.http_port.specs.declared.head_reader.Fed.{Fed}
@@ -23,15 +24,26 @@ use Rattle.conn_future.specs.Talking.{Seen, plain, IsOut, IsTalking}
 abbrev pub outgoing : List ℕ → Outgoing
 outgoing text = record { out = []; left = text }
 
--- whether nothing more passes on a connection that stands so
-abbrev pub is_over : Standing → Bool
-is_over Stands.Waits = false
-is_over (Stands.Holds body close) = false
-is_over (Stands.Owes close) = false
-is_over (Stands.Says close) = false
-is_over (Stands.Sends close) = false
-is_over (Stands.Over ending) = true
-is_over Stands.Spent = false
+-- how many requests were handed out of which the response is not made yet
+abbrev pub unmade : Standing → ℕ
+unmade Stands.Waits = 0
+unmade (Stands.Holds body close) = 0
+unmade (Stands.Owes close) = 1
+unmade (Stands.Says close) = 1
+unmade (Stands.Sends close) = 0
+unmade (Stands.Over ending) = 0
+unmade Stands.Spent = 0
+
+-- how much may still be done on a connection: bytes that are read or written, as memory has an end, and one response
+abbrev pub left_to_do : Kept → ℕ
+left_to_do kept = (2 ^ 63 - length kept.read.items) + (2 ^ 63 - length kept.written.items) + unmade kept.next
+
+-- after a turn that goes on less is left to do
+abbrev pub LeavesLess : Turn → Kept → Kept → Type 0
+LeavesLess Turns.GoesOn was now = left_to_do now < left_to_do was
+LeavesLess Turns.Waits was now = Unit {0}
+LeavesLess Turns.Owes was now = Unit {0}
+LeavesLess Turns.Over was now = Unit {0}
 
 -- what a connection has read and written is as it was, and where its reader is
 pub record IsSame (was now : Kept) : Type 0 where

@@ -1,10 +1,6 @@
 //! What a connection keeps beside its wire.
-ghost use Rattle.std.specs.Prelude.{◌≡◌, [], false, None, IfOk};
-ghost use Rattle.http_port.specs.Feeding.{Open, Feeds};
-ghost use Rattle.conn_future.specs.Stages.{stage_of};
-ghost use Rattle.conn_future.specs.Steps.{outgoing, is_over, HandsOut, IsSame, Says};
-ghost use Rattle.conn_future.specs.declared.stage.Stage.TheVariants as Stages;
-ghost use Rattle.conn_future.specs.declared.stage.Standing.TheVariants as Stands;
+ghost use Rattle.std.specs.Prelude.{◌≡◌, ◌<◌, true, length};
+ghost use Rattle.conn_future.specs.Stages.{is_sending};
 
 use crate::due::Due;
 use crate::stage::Standing;
@@ -25,9 +21,17 @@ pub struct Kept {
     pub(crate) said: Option<Bytes>,
     pub(crate) due: Due,
     pub(crate) next: Standing,
+    ghost unsent: { is_sending next ≡ true → 0 < length due.left },
 }
 
 impl Kept {
+    ghost use Rattle.std.specs.Prelude.{[], false, None, IfOk};
+    ghost use Rattle.http_port.specs.Feeding.{Open, Feeds};
+    ghost use Rattle.conn_future.specs.Stages.{stage_of};
+    ghost use Rattle.conn_future.specs.Steps.{outgoing, HandsOut, IsSame, Says};
+    ghost use Rattle.conn_future.specs.declared.stage.Stage.TheVariants as Stages;
+    ghost use Rattle.conn_future.specs.declared.stage.Standing.TheVariants as Stands;
+
     /// Before anything passed.
     pub(crate) fn new(alloc: Global) -> Kept
         ensures reader { result.reader ≡ Open [] false }
@@ -46,8 +50,9 @@ impl Kept {
         }
     }
 
-    /// Goes on so.
+    /// Goes on so, without a text that goes out.
     pub(crate) fn stand(&mut self, next: Standing)
+        requires { is_sending next ≡ false }
         ensures next { self.new.next ≡ next }
         ensures same { IsSame self.old self.new }
         ensures said { self.new.said ≡ self.old.said }
@@ -56,8 +61,20 @@ impl Kept {
         self.next = next;
     }
 
+    /// Has the rest of the text go out, with which the connection closes or goes on.
+    pub(crate) fn send_on(&mut self, close: bool)
+        requires { 0 < length self.old.due.left }
+        ensures next { self.new.next ≡ Stands.Sends close }
+        ensures same { IsSame self.old self.new }
+        ensures said { self.new.said ≡ self.old.said }
+        ensures due { self.new.due ≡ self.old.due }
+    {
+        self.next = Standing::Sends { close };
+    }
+
     /// Has a text go out, with which the connection closes or goes on.
     pub(crate) fn send(&mut self, text: Bytes, close: bool)
+        requires { 0 < length text }
         ensures next { self.new.next ≡ Stands.Sends close }
         ensures same { IsSame self.old self.new }
         ensures due { self.new.due ≡ outgoing text }
@@ -74,13 +91,6 @@ impl Kept {
         ensures next { self.new.next ≡ self.old.next }
     {
         self.reader.feed(piece)
-    }
-
-    /// Whether nothing more passes.
-    pub(crate) fn is_over(&self) -> bool
-        ensures { result ≡ is_over self.now.next }
-    {
-        matches!(self.next, Standing::Over(_))
     }
 
     /// What is said to the request that was handed out last, of which a response is made next.

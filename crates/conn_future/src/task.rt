@@ -1,14 +1,14 @@
 //! A connection, polled by hand from its first byte until it is over.
-ghost use Rattle.std.specs.Prelude.{◌≡◌, ◌++◌, ◌∷◌, [], List, ℕ, Option, MatchOption};
+ghost use Rattle.std.specs.Prelude.{◌≡◌, ◌≢◌, ◌++◌, ◌∷◌, [], List, ℕ, Option, MatchOption};
 ghost use Rattle.outside_traits.specs.Told.{WireTold};
 ghost use Rattle.http_connection.specs.Talking.{handed};
 ghost use Rattle.conn_future.specs.declared.stage.Stage.TheVariants as Stages;
-ghost use Rattle.conn_future.specs.Stages.{stage_of, EndsPoll};
+ghost use Rattle.conn_future.specs.Stages.{stage_of, EndsPoll, IsAtRest};
 ghost use Rattle.conn_future.specs.Talking.{seen, IsTalking, TalksOn, StaysPrompt};
 ghost use Rattle.outside_polling.specs.Polls.{shut_so};
 
 use crate::kept::Kept;
-use crate::stage::{Stage, Standing};
+use crate::stage::Stage;
 use crate::turn::{Turn, take_turn};
 use futures::task::Poll;
 use jolie_trees::Bytes;
@@ -76,8 +76,11 @@ impl<W: PollWire> ConnTask<W> {
             (W.told self.old.wire).waits
             (W.told self.new.wire).waits
             (stage_of self.new.kept.next) }
+        ensures rests { IsAtRest (stage_of self.old.kept.next)
+            → (self.new.kept ≡ self.old.kept) × (self.new.wire ≡ self.old.wire) }
+        ensures owes { stage_of self.new.kept.next ≡ Stages.Owes → stage_of self.old.kept.next ≡ Stages.Owes }
     {
-        for _ in 0..u64::MAX {
+        loop {
             match take_turn(&mut self.wire, &mut self.kept) {
                 Ok(Turn::GoesOn) => {}
                 Ok(Turn::Waits) => return Poll::Pending,
@@ -86,11 +89,6 @@ impl<W: PollWire> ConnTask<W> {
                 Err(AllocError) => return Poll::Ready(Err(AllocError)),
             }
         }
-        if self.kept.is_over() {
-            return Poll::Ready(Ok(()));
-        }
-        self.kept.stand(Standing::Spent);
-        Poll::Ready(Err(AllocError))
     }
 
     /// The body of the request that is whole and was not handed out; none where there is none.
@@ -99,7 +97,8 @@ impl<W: PollWire> ConnTask<W> {
             → IsTalking first (seen self.old.kept (W.told self.old.wire)) bodies texts
             → IsTalking first (seen self.new.kept (W.told self.new.wire)) (bodies ++ handed result) texts }
         ensures stage { MatchOption result
-            (stage_of self.new.kept.next ≡ stage_of self.old.kept.next)
+            ((stage_of self.new.kept.next ≡ stage_of self.old.kept.next)
+            × (stage_of self.old.kept.next ≢ Stages.Asks))
             (λ _. (stage_of self.old.kept.next ≡ Stages.Asks) × (stage_of self.new.kept.next ≡ Stages.Owes)) }
         ensures wire { self.new.wire ≡ self.old.wire }
     {

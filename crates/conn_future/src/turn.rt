@@ -1,9 +1,9 @@
 //! A turn of a connection: one call of its wire at most, and what it calls for.
 ghost use Rattle.std.specs.Prelude.{◌≡◌, IfOk, OnErr};
 ghost use Rattle.http_port.specs.Talk.{answer as answer_text};
-ghost use Rattle.conn_future.specs.Stages.{stage_of};
+ghost use Rattle.conn_future.specs.Stages.{stage_of, IsAtRest};
 ghost use Rattle.conn_future.specs.Talking.{seen, TalksOn};
-ghost use Rattle.conn_future.specs.Steps.{CallsOn, Stops, TakesUp, FollowsOn, IsOutOn, Finishes, IsMade};
+ghost use Rattle.conn_future.specs.Steps.{CallsOn, Stops, LeavesLess, TakesUp, FollowsOn, IsOutOn, Finishes, IsMade, unmade};
 ghost use Rattle.conn_future.specs.declared.stage.Stage.TheVariants as Stages;
 ghost use Rattle.conn_future.specs.declared.stage.Standing.TheVariants as Stands;
 ghost use Rattle.conn_future.specs.declared.turn.Turn.TheVariants as Turns;
@@ -44,6 +44,9 @@ pub(crate) fn take_turn<W: PollWire>(wire: &mut W, kept: &mut Kept) -> Result<Tu
         (λ turn. Stops turn (W.told wire.old).waits (W.told wire.new).waits (stage_of kept.new.next)) }
     ensures spent { OnErr result (((W.told wire.new).waits ≡ (W.told wire.old).waits)
         × (kept.new.next ≡ Stands.Spent)) }
+    ensures less { IfOk result (λ turn. LeavesLess turn kept.old kept.new) }
+    ensures rests { IsAtRest (stage_of kept.old.next) → (kept.new ≡ kept.old) × (wire.new ≡ wire.old) }
+    ensures owes { stage_of kept.new.next ≡ Stages.Owes → stage_of kept.old.next ≡ Stages.Owes }
 {
     match &kept.next {
         Standing::Waits => read_on(wire, kept),
@@ -72,6 +75,8 @@ fn read_on<W: PollWire>(wire: &mut W, kept: &mut Kept) -> Result<Turn, AllocErro
         (λ turn. Stops turn (W.told wire.old).waits (W.told wire.new).waits (stage_of kept.new.next)) }
     ensures spent { OnErr result (((W.told wire.new).waits ≡ (W.told wire.old).waits)
         × (kept.new.next ≡ Stands.Spent)) }
+    ensures less { IfOk result (λ turn. LeavesLess turn kept.old kept.new) }
+    ensures made { unmade kept.new.next ≡ 0 }
 {
     kept.stand(Standing::Spent);
     kept.read.reserve(CHUNK)?;
@@ -121,13 +126,15 @@ fn write_on<W: PollWire>(wire: &mut W, kept: &mut Kept, close: bool) -> Result<T
         (λ turn. Stops turn (W.told wire.old).waits (W.told wire.new).waits (stage_of kept.new.next)) }
     ensures spent { OnErr result (((W.told wire.new).waits ≡ (W.told wire.old).waits)
         × (kept.new.next ≡ Stands.Spent)) }
+    ensures less { IfOk result (λ turn. LeavesLess turn kept.old kept.new) }
+    ensures made { unmade kept.new.next ≡ 0 }
 {
     kept.stand(Standing::Spent);
     let rest = kept.due.left();
     kept.written.reserve(rest.len())?;
     match wire.try_write(rest) {
         Ok(Ready::NotYet) => {
-            kept.stand(Standing::Sends { close });
+            kept.send_on(close);
             Ok(Turn::Waits)
         }
         Ok(Ready::Done(count)) => {
@@ -150,9 +157,10 @@ fn go_behind<W: PollWire>(wire: &mut W, kept: &mut Kept, close: bool) -> Result<
         (λ turn. Stops turn (W.told wire.old).waits (W.told wire.new).waits (stage_of kept.new.next)) }
     ensures spent { OnErr result (((W.told wire.new).waits ≡ (W.told wire.old).waits)
         × (kept.new.next ≡ Stands.Spent)) }
+    ensures made { unmade kept.new.next ≡ 0 }
 {
     if !kept.due.is_out() {
-        kept.stand(Standing::Sends { close });
+        kept.send_on(close);
         return Ok(Turn::GoesOn);
     }
     if close {
@@ -169,6 +177,7 @@ fn go_on(kept: &mut Kept, piece: &[u8]) -> Result<(), AllocError>
     ensures read { kept.new.read.items ≡ kept.old.read.items }
     ensures written { kept.new.written.items ≡ kept.old.written.items }
     ensures spent { OnErr result (kept.new.next ≡ Stands.Spent) }
+    ensures made { unmade kept.new.next ≡ 0 }
 {
     let fed = kept.feed(piece)?;
     take_up(kept, fed)
@@ -181,6 +190,7 @@ fn take_up(kept: &mut Kept, fed: Fed) -> Result<(), AllocError>
     ensures read { kept.new.read.items ≡ kept.old.read.items }
     ensures written { kept.new.written.items ≡ kept.old.written.items }
     ensures spent { OnErr result (kept.new.next ≡ Stands.Spent) }
+    ensures made { unmade kept.new.next ≡ 0 }
 {
     match fed {
         Fed::NotYet => {

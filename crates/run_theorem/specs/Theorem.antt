@@ -152,4 +152,4 @@ pub record IsDoored (IsMade : WireTold → Type 0) (most : ℕ) (t : Task) (a : 
   pub doors : HasDoors IsMade t.parts a served.connections ended.report.traffic
   -- unless a note failed or there were the most postings it went on until no more could come, or none came for too long
   pub through : ran.status.causes.notes ≡ false → length ran.came < most_postings
-      → IsThrough (HadNoAnswer (run_of t.parts) (history_of ended) served.all.asked) most served.connections doors.used.doors
+      → IsThrough (HadNoAnswer (run_of t.parts) (history_of ended) served.all.asked) most served.connections doors.used

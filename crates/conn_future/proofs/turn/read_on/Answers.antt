@@ -1,5 +1,5 @@
 -- What a read brings is taken up, or the wire waits or failed.
-use Rattle.std.proofs.Common.{rules, inl, refl, sym, ap, ◌∙◌, subst, [], ◌∷◌, take}
+use Rattle.std.proofs.Common.{rules, ◌≡◌, ◌+◌, ◌<◌, ◌≤◌, ◌^◌, ◌++◌, length, length-append, arith, inl, refl, sym, ap, ◌∙◌, subst, [], ◌∷◌, take}
 use Rattle.std.specs.Io.KnownBytes.{Appends, Consumes}
 use Rattle.outside_traits.specs.Told.{Lists}
 use Rattle.outside_traits.specs.declared.calls.WireCall.TheVariants.{Read}
@@ -13,7 +13,7 @@ use Rattle.conn_future.specs.Stages.{plain_standing, stage_of}
 use Rattle.conn_future.specs.Talking.{seen, plain}
 use Rattle.conn_future.proofs.Standing.{waits_fed, waits_spent, ended_now, read_failed_now}
 use Rattle.conn_future.proofs.Writing.{moved}
-use Rattle.conn_future.proofs.Turning.{over_stops, nothing_called}
+use Rattle.conn_future.proofs.Turning.{over_stops, nothing_called, read_less, over_less}
 use Rattle.conn_future.proofs.turn.read_on.Goals as goal
 
 pub returns-in_err-reserve-clause-talks : goal.returns-in_err-reserve-clause-talks
@@ -192,3 +192,24 @@ pub returns-in-Err-clause-stops : goal.returns-in-Err-clause-stops
 returns-in-Err-clause-stops g c =
     over_stops c.finish-in-Err.result (g.W.PollWire.told c.args.wire.now).waits (g.W.PollWire.told c.finish-in-Err.new.wire).waits c.finish-in-Err.new.kept.next _
     c.finish-in-Err.ensures.turn (c.finish-in-Err.ensures.waits ∙ c.in-Err.ensures.reads.1) c.finish-in-Err.ensures.finishes.next
+
+pub returns-in_ok-go_on-in-Ok-Done-clause-less : goal.returns-in_ok-go_on-in-Ok-Done-clause-less
+returns-in_ok-go_on-in-Ok-Done-clause-less g c =
+    let read = c.args.kept.now.read.items in
+    let piece = take c.in-Ok-Done.count c.try_read.new.into in
+    let v = c.extend_from_slice.new.self in
+    let grown : v.items ≡ read ++ piece = search rules in
+    let longer = ap length grown ∙ length-append read piece in
+    let count = (rw c.in-Ok-Done.field-0-is at c.in-Ok-Done.ensures.bound).1 in
+    let same = ap length c.in_ok-go_on-in-Ok-Done.ensures.read in
+    read_less c.args.kept.now c.go_on.new.kept
+    (omega (arith, longer, count, same, c.in-Ok-Done.count-test))
+    (omega (arith, same, v.ok.0, v.ok.1, v.small))
+    (c.in_ok-go_on-in-Ok-Done.ensures.written ∙ c.stand.ensures.same.written)
+    c.in_ok-go_on-in-Ok-Done.ensures.made
+
+pub returns-in-Ok-Done-eq0-clause-less : goal.returns-in-Ok-Done-eq0-clause-less
+returns-in-Ok-Done-eq0-clause-less g c = over_less c.finish.result c.args.kept.now c.finish.new.kept c.finish.ensures.turn
+
+pub returns-in-Err-clause-less : goal.returns-in-Err-clause-less
+returns-in-Err-clause-less g c = over_less c.finish-in-Err.result c.args.kept.now c.finish-in-Err.new.kept c.finish-in-Err.ensures.turn

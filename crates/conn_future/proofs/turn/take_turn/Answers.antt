@@ -2,8 +2,9 @@
 use Rattle.std.proofs.Common.{refl, inl, inr, ap}
 use Rattle.conn_future.specs.Stages.{stage_of}
 use Rattle.conn_future.specs.Talking.{seen}
+use Rattle.conn_future.specs.Steps.{unmade}
 use Rattle.conn_future.proofs.Writing.{responds, responds_not}
-use Rattle.conn_future.proofs.Turning.{nothing_called, over_stops}
+use Rattle.conn_future.proofs.Turning.{nothing_called, over_stops, made_less, unowed, unrested}
 use Rattle.conn_future.proofs.turn.take_turn.Goals as goal
 
 pub returns-in-Holds-clause-talks : goal.returns-in-Holds-clause-talks
@@ -64,3 +65,32 @@ returns-in-Owes-clause-stops g c = (refl, inr (ap stage_of c.in-Owes.is))
 
 pub returns-in-Over-clause-stops : goal.returns-in-Over-clause-stops
 returns-in-Over-clause-stops g c = over_stops _ _ _ c.args.kept.now.next _ refl refl c.in-Over.is
+
+pub returns-in_ok-respond-in-Says-clause-less : goal.returns-in_ok-respond-in-Says-clause-less
+returns-in_ok-respond-in-Says-clause-less g c =
+    let made = c.in_ok-respond-in-Says.ensures.made in
+    made_less c.args.kept.now c.respond.new.kept made.0 (ap unmade c.in-Says.is) (ap unmade made.2)
+
+pub returns-in-Waits-clause-rests : goal.returns-in-Waits-clause-rests
+returns-in-Waits-clause-rests g c = λ r. absurd (unrested _ (inl (ap stage_of c.in-Waits.is)) r)
+
+pub returns-in_ok-respond-in-Says-clause-rests : goal.returns-in_ok-respond-in-Says-clause-rests
+returns-in_ok-respond-in-Says-clause-rests g c = λ r. absurd (unrested _ (inr (ap stage_of c.in-Says.is)) r)
+
+pub returns-in_err-respond-in-Says-clause-rests : goal.returns-in_err-respond-in-Says-clause-rests
+returns-in_err-respond-in-Says-clause-rests g c = λ r. absurd (unrested _ (inr (ap stage_of c.in-Says.is)) r)
+
+pub returns-in-Sends-clause-rests : goal.returns-in-Sends-clause-rests
+returns-in-Sends-clause-rests g c = λ r. absurd (unrested _ (inr (ap stage_of c.in-Sends.is)) r)
+
+pub returns-in-Waits-clause-owes : goal.returns-in-Waits-clause-owes
+returns-in-Waits-clause-owes g c = λ e. absurd (unowed _ c.read_on.ensures.made e)
+
+pub returns-in-Sends-clause-owes : goal.returns-in-Sends-clause-owes
+returns-in-Sends-clause-owes g c = λ e. absurd (unowed _ c.write_on.ensures.made e)
+
+pub returns-in_ok-respond-in-Says-clause-owes : goal.returns-in_ok-respond-in-Says-clause-owes
+returns-in_ok-respond-in-Says-clause-owes g c = λ e. absurd (unowed _ (ap unmade c.in_ok-respond-in-Says.ensures.made.2) e)
+
+pub returns-in_err-respond-in-Says-clause-owes : goal.returns-in_err-respond-in-Says-clause-owes
+returns-in_err-respond-in-Says-clause-owes g c = λ e. absurd (unowed _ (ap unmade c.in_err-respond-in-Says.ensures.made.1) e)

@@ -1,17 +1,18 @@
 -- A piece more of the text is out, or the wire waits or failed.
-use Rattle.std.proofs.Common.{rules, ◌≡◌, ◌++◌, inr, refl, sym, ap, ◌∙◌, subst, [], take, drop}
+use Rattle.std.proofs.Common.{rules, ◌≡◌, ◌<◌, ◌≤◌, ◌++◌, length, length-append, arith, inr, refl, sym, ap, ◌∙◌, subst, [], take, drop}
 use Rattle.std.specs.Io.KnownBytes.{Appends}
 use Rattle.http_connection.specs.Talking.{log_of}
 use Rattle.http_connection.specs.Prompt.{OnlyWrites}
 use Rattle.http_connection.proofs.Calls.{called_writes}
 use Rattle.outside_polling.specs.Polls.{PollTold}
+use Rattle.conn_future.specs.declared.stage.Standing.TheVariants as Stands
 use Rattle.conn_future.specs.Outgoing.{Outgoing}
-use Rattle.conn_future.specs.Stages.{stage_of}
+use Rattle.conn_future.specs.Stages.{stage_of, is_sending}
 use Rattle.conn_future.specs.Talking.{seen, plain}
-use Rattle.conn_future.proofs.Writing.{moved}
+use Rattle.conn_future.proofs.Writing.{moved, unsent_at}
 use Rattle.conn_future.proofs.Sending.{Wrote, sending, wrote_carried, wrote_out, cut_now}
 use Rattle.conn_future.proofs.Standing.{spends_sending}
-use Rattle.conn_future.proofs.Turning.{stops_since, over_stops, one_write, taken_count, nothing_called}
+use Rattle.conn_future.proofs.Turning.{stops_since, over_stops, one_write, taken_count, nothing_called, write_less, any_less, over_less}
 use Rattle.conn_future.proofs.turn.write_on.Goals as goal
 
 pub returns-in_err-reserve-clause-talks : goal.returns-in_err-reserve-clause-talks
@@ -25,22 +26,22 @@ returns-in_err-reserve-clause-talks g c = λ first bodies texts h.
 pub returns-in-Ok-NotYet-clause-talks : goal.returns-in-Ok-NotYet-clause-talks
 returns-in-Ok-NotYet-clause-talks g c = λ first bodies texts h.
     let was = seen c.args.kept.now (g.W.PollWire.told c.args.wire.now) in
-    let now = seen c.stand-in-Ok-NotYet.new.self (g.W.PollWire.told c.try_write.new.self) in
+    let now = seen c.send_on.new.self (g.W.PollWire.told c.try_write.new.self) in
     moved first was now bodies texts h
     (record {
-      reader = c.stand-in-Ok-NotYet.ensures.same.reader ∙ c.stand.ensures.same.reader;
-      read = c.stand-in-Ok-NotYet.ensures.same.read ∙ c.stand.ensures.same.read;
+      reader = c.send_on.ensures.same.reader ∙ c.stand.ensures.same.reader;
+      read = c.send_on.ensures.same.read ∙ c.stand.ensures.same.read;
       written = search rules;
     })
-    (c.stand-in-Ok-NotYet.ensures.said ∙ c.stand.ensures.said)
-    (c.stand-in-Ok-NotYet.ensures.due ∙ c.stand.ensures.due)
+    (c.send_on.ensures.said ∙ c.stand.ensures.said)
+    (c.send_on.ensures.due ∙ c.stand.ensures.due)
     (ap (λ (t : PollTold). t.wire) (rw c.in-Ok-NotYet.field-0-is at c.in-Ok-NotYet.ensures.writes).1)
-    (c.stand-in-Ok-NotYet.ensures.next ∙ sym c.requires)
+    (c.send_on.ensures.next ∙ sym c.requires)
 
 pub returns-in-Ok-Done-clause-talks : goal.returns-in-Ok-Done-clause-talks
 returns-in-Ok-Done-clause-talks g c = λ first bodies texts h.
     let was = seen c.args.kept.now (g.W.PollWire.told c.args.wire.now) in
-    let mid = seen (record c.stand.new.self { written = c.extend_from_slice.new.self; due = c.advance.new.self }) (g.W.PollWire.told c.try_write.new.self) in
+    let mid = seen (record c.stand.new.self { written = c.extend_from_slice.new.self; due = c.advance.new.self; unsent = unsent_at _ Stands.Spent _ c.stand.ensures.next refl }) (g.W.PollWire.told c.try_write.new.self) in
     let n = c.in-Ok-Done.count in
     let did = (rw c.in-Ok-Done.field-0-is at c.in-Ok-Done.ensures.writes).0 in
     let same : c.left-rest.result.now ≡ was.kept.due.left = c.left-rest.ensures ∙ ap (λ (d : Outgoing). d.left) c.stand.ensures.due in
@@ -93,10 +94,10 @@ returns-in_err-reserve-clause-called g c = λ first bodies texts h.
 pub returns-in-Ok-NotYet-clause-called : goal.returns-in-Ok-NotYet-clause-called
 returns-in-Ok-NotYet-clause-called g c = λ first bodies texts h.
     nothing_called (seen c.args.kept.now (g.W.PollWire.told c.args.wire.now))
-    (seen c.stand-in-Ok-NotYet.new.self (g.W.PollWire.told c.try_write.new.self)) bodies texts
+    (seen c.send_on.new.self (g.W.PollWire.told c.try_write.new.self)) bodies texts
     (record {
-      reader = c.stand-in-Ok-NotYet.ensures.same.reader ∙ c.stand.ensures.same.reader;
-      read = c.stand-in-Ok-NotYet.ensures.same.read ∙ c.stand.ensures.same.read;
+      reader = c.send_on.ensures.same.reader ∙ c.stand.ensures.same.reader;
+      read = c.send_on.ensures.same.read ∙ c.stand.ensures.same.read;
       written = search rules;
     })
     (ap (λ (t : PollTold). t.wire.calls) (rw c.in-Ok-NotYet.field-0-is at c.in-Ok-NotYet.ensures.writes).1)
@@ -125,7 +126,7 @@ returns-in-Err-clause-called g c = λ first bodies texts h.
     (c.finish.ensures.finishes.plainly.read ∙ c.stand.ensures.same.read)
 
 pub returns-in-Ok-NotYet-clause-stops : goal.returns-in-Ok-NotYet-clause-stops
-returns-in-Ok-NotYet-clause-stops g c = (ap (λ (t : PollTold). t.waits) (rw c.in-Ok-NotYet.field-0-is at c.in-Ok-NotYet.ensures.writes).1, inr (ap stage_of c.stand-in-Ok-NotYet.ensures.next))
+returns-in-Ok-NotYet-clause-stops g c = (ap (λ (t : PollTold). t.waits) (rw c.in-Ok-NotYet.field-0-is at c.in-Ok-NotYet.ensures.writes).1, inr (ap stage_of c.send_on.ensures.next))
 
 pub returns-in-Ok-Done-clause-stops : goal.returns-in-Ok-Done-clause-stops
 returns-in-Ok-Done-clause-stops g c =
@@ -136,3 +137,26 @@ pub returns-in-Err-clause-stops : goal.returns-in-Err-clause-stops
 returns-in-Err-clause-stops g c =
     over_stops c.finish.result (g.W.PollWire.told c.args.wire.now).waits (g.W.PollWire.told c.finish.new.wire).waits c.finish.new.kept.next _
     c.finish.ensures.turn (c.finish.ensures.waits ∙ c.in-Err.ensures.writes.1) c.finish.ensures.finishes.next
+
+pub returns-in-Ok-Done-clause-less : goal.returns-in-Ok-Done-clause-less
+returns-in-Ok-Done-clause-less g c =
+    let was = c.args.kept.now in
+    let n = c.in-Ok-Done.count in
+    let rest = c.left-rest.result.now in
+    let did = (rw c.in-Ok-Done.field-0-is at c.in-Ok-Done.ensures.writes).0 in
+    let v = c.extend_from_slice.new.self in
+    let whole : rest ≡ was.due.left = c.left-rest.ensures ∙ ap (λ (d : Outgoing). d.left) c.stand.ensures.due in
+    let some = did.some (subst (λ l. 0 < length l) (sym whole) (was.unsent (ap is_sending c.requires))) in
+    let grown : v.items ≡ was.written.items ++ take n rest = search rules in
+    let longer = ap length grown ∙ length-append was.written.items (take n rest) in
+    let count = taken_count n rest rest (rw c.in-Ok-Done.field-0-is at c.in-Ok-Done.ensures.bound) refl in
+    let same = ap length c.go_behind.ensures.written in
+    any_less c.go_behind.result was c.go_behind.new.kept
+    (write_less was c.go_behind.new.kept
+    (omega (arith, longer, count, same, some))
+    (omega (arith, same, v.ok.0, v.ok.1, v.small))
+    (c.go_behind.ensures.read ∙ c.stand.ensures.same.read)
+    c.go_behind.ensures.made)
+
+pub returns-in-Err-clause-less : goal.returns-in-Err-clause-less
+returns-in-Err-clause-less g c = over_less c.finish.result c.args.kept.now c.finish.new.kept c.finish.ensures.turn

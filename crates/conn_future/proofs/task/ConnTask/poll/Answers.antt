@@ -1,11 +1,9 @@
 -- Turn by turn, until one goes on no more.
-use Rattle.std.proofs.Common.{inl, inr, refl, sym, ap, ◌∙◌}
-use Rattle.http_connection.specs.Talking.{log_of}
-use Rattle.http_connection.proofs.Calls.{is_prompt}
+use Rattle.std.proofs.Common.{inl, inr, refl, ap, ◌∙◌}
 use Rattle.outside_polling.specs.Polls.{once_more}
 use Rattle.conn_future.specs.Stages.{stage_of}
-use Rattle.conn_future.specs.Talking.{seen, plain}
-use Rattle.conn_future.proofs.Turning.{nothing_called, calls_on, gives_up, is_over_stage, prompt_on}
+use Rattle.conn_future.specs.Talking.{seen}
+use Rattle.conn_future.proofs.Turning.{nothing_called, calls_on, prompt_on, rests_on}
 use Rattle.conn_future.proofs.task.ConnTask.poll.Goals as goal
 
 pub loop-init : goal.loop-init
@@ -15,6 +13,8 @@ loop-init g c =
       talks = λ first bodies texts h. h;
       called = λ first bodies texts h. nothing_called was was bodies texts (record { reader = refl; read = refl; written = refl }) refl;
       waits = refl;
+      rests = λ _. (refl, refl);
+      owes = λ e. e;
     }
 
 pub loop-preserved : goal.loop-preserved
@@ -26,7 +26,12 @@ loop-preserved g c =
       talks = λ first bodies texts h. c.in-Ok-GoesOn.ensures.talks first bodies texts (c.loop.invariant.talks first bodies texts h);
       called = calls_on was mid now c.loop.invariant.talks c.loop.invariant.called c.in-Ok-GoesOn.ensures.called;
       waits = (rw c.in-Ok-GoesOn.field-0-is at c.in-Ok-GoesOn.ensures.stops) ∙ c.loop.invariant.waits;
+      rests = rests_on _ c.loop.self.kept c.take_turn.new.kept _ c.loop.self.wire c.take_turn.new.wire c.loop.invariant.rests c.in-Ok-GoesOn.ensures.rests;
+      owes = λ e. c.loop.invariant.owes (c.in-Ok-GoesOn.ensures.owes e);
     }
+
+pub loop-smaller : goal.loop-smaller
+loop-smaller g c = rw c.in-Ok-GoesOn.field-0-is at c.in-Ok-GoesOn.ensures.less
 
 pub returns-in-Ok-Waits-clause-talks : goal.returns-in-Ok-Waits-clause-talks
 returns-in-Ok-Waits-clause-talks g c = λ first bodies texts h. c.in-Ok-Waits.ensures.talks first bodies texts (c.loop.invariant.talks first bodies texts h)
@@ -39,14 +44,6 @@ returns-in-Ok-Over-clause-talks g c = λ first bodies texts h. c.in-Ok-Over.ensu
 
 pub returns-in-Err-clause-talks : goal.returns-in-Err-clause-talks
 returns-in-Err-clause-talks g c = λ first bodies texts h. c.in-Err.ensures.talks first bodies texts (c.loop.invariant.talks first bodies texts h)
-
-pub returns-then-is_over-clause-talks : goal.returns-then-is_over-clause-talks
-returns-then-is_over-clause-talks g c = c.loop.invariant.talks
-
-pub returns-clause-talks : goal.returns-clause-talks
-returns-clause-talks g c = λ first bodies texts h.
-    gives_up first (seen c.loop.self.kept (g.W.PollWire.told c.loop.self.wire)) (seen c.stand.new.self (g.W.PollWire.told c.loop.self.wire)) bodies texts
-    (c.loop.invariant.talks first bodies texts h) (sym c.is_over.ensures ∙ c.if-is_over.false) c.stand.ensures.same refl c.stand.ensures.next
 
 pub returns-in-Ok-Waits-clause-prompt : goal.returns-in-Ok-Waits-clause-prompt
 returns-in-Ok-Waits-clause-prompt g c =
@@ -68,19 +65,6 @@ returns-in-Err-clause-prompt g c =
     prompt_on (seen c.args.self.now.kept (g.W.PollWire.told c.args.self.now.wire)) (seen c.loop.self.kept (g.W.PollWire.told c.loop.self.wire))
     (seen c.take_turn.new.kept (g.W.PollWire.told c.take_turn.new.wire)) c.loop.invariant.talks c.loop.invariant.called c.in-Err.ensures.called
 
-pub returns-then-is_over-clause-prompt : goal.returns-then-is_over-clause-prompt
-returns-then-is_over-clause-prompt g c = λ first bodies texts h.
-    let was = seen c.args.self.now.kept (g.W.PollWire.told c.args.self.now.wire) in
-    let now = seen c.loop.self.kept (g.W.PollWire.told c.loop.self.wire) in
-    is_prompt was.line.calls now.line.calls (log_of (plain was) bodies texts) (log_of (plain now) bodies texts) (c.loop.invariant.called first bodies texts h)
-
-pub returns-clause-prompt : goal.returns-clause-prompt
-returns-clause-prompt g c =
-    let mid = seen c.loop.self.kept (g.W.PollWire.told c.loop.self.wire) in
-    let now = seen c.stand.new.self (g.W.PollWire.told c.loop.self.wire) in
-    prompt_on (seen c.args.self.now.kept (g.W.PollWire.told c.args.self.now.wire)) mid now c.loop.invariant.talks c.loop.invariant.called
-    (λ first bodies texts h. nothing_called mid now bodies texts c.stand.ensures.same refl)
-
 pub returns-in-Ok-Waits-clause-ends : goal.returns-in-Ok-Waits-clause-ends
 returns-in-Ok-Waits-clause-ends g c =
     let stops = rw c.in-Ok-Waits.field-0-is at c.in-Ok-Waits.ensures.stops in
@@ -99,8 +83,30 @@ returns-in-Ok-Over-clause-ends g c =
 pub returns-in-Err-clause-ends : goal.returns-in-Err-clause-ends
 returns-in-Err-clause-ends g c = (c.in-Err.ensures.spent.0 ∙ c.loop.invariant.waits, ap stage_of c.in-Err.ensures.spent.1)
 
-pub returns-then-is_over-clause-ends : goal.returns-then-is_over-clause-ends
-returns-then-is_over-clause-ends g c = (c.loop.invariant.waits, is_over_stage c.loop.self.kept.next (sym c.is_over.ensures ∙ c.if-is_over.true))
+pub returns-in-Ok-Waits-clause-rests : goal.returns-in-Ok-Waits-clause-rests
+returns-in-Ok-Waits-clause-rests g c =
+    rests_on _ c.loop.self.kept c.take_turn.new.kept _ c.loop.self.wire c.take_turn.new.wire c.loop.invariant.rests c.in-Ok-Waits.ensures.rests
 
-pub returns-clause-ends : goal.returns-clause-ends
-returns-clause-ends g c = (c.loop.invariant.waits, ap stage_of c.stand.ensures.next)
+pub returns-in-Ok-Owes-clause-rests : goal.returns-in-Ok-Owes-clause-rests
+returns-in-Ok-Owes-clause-rests g c =
+    rests_on _ c.loop.self.kept c.take_turn.new.kept _ c.loop.self.wire c.take_turn.new.wire c.loop.invariant.rests c.in-Ok-Owes.ensures.rests
+
+pub returns-in-Ok-Over-clause-rests : goal.returns-in-Ok-Over-clause-rests
+returns-in-Ok-Over-clause-rests g c =
+    rests_on _ c.loop.self.kept c.take_turn.new.kept _ c.loop.self.wire c.take_turn.new.wire c.loop.invariant.rests c.in-Ok-Over.ensures.rests
+
+pub returns-in-Err-clause-rests : goal.returns-in-Err-clause-rests
+returns-in-Err-clause-rests g c =
+    rests_on _ c.loop.self.kept c.take_turn.new.kept _ c.loop.self.wire c.take_turn.new.wire c.loop.invariant.rests c.in-Err.ensures.rests
+
+pub returns-in-Ok-Waits-clause-owes : goal.returns-in-Ok-Waits-clause-owes
+returns-in-Ok-Waits-clause-owes g c = λ e. c.loop.invariant.owes (c.in-Ok-Waits.ensures.owes e)
+
+pub returns-in-Ok-Owes-clause-owes : goal.returns-in-Ok-Owes-clause-owes
+returns-in-Ok-Owes-clause-owes g c = λ e. c.loop.invariant.owes (c.in-Ok-Owes.ensures.owes e)
+
+pub returns-in-Ok-Over-clause-owes : goal.returns-in-Ok-Over-clause-owes
+returns-in-Ok-Over-clause-owes g c = λ e. c.loop.invariant.owes (c.in-Ok-Over.ensures.owes e)
+
+pub returns-in-Err-clause-owes : goal.returns-in-Err-clause-owes
+returns-in-Err-clause-owes g c = λ e. c.loop.invariant.owes (c.in-Err.ensures.owes e)

@@ -1,11 +1,20 @@
 -- What a look came to is what the call came to.
-use Rattle.run_door_front.proofs.Coming.{written_all, looks-kept}
+use Rattle.std.proofs.Common.{refl}
+use Rattle.run_door_front.proofs.Lent.{written_all, looks-kept}
+use Rattle.run_door_front.proofs.Looking.{looks-ordered}
 use Rattle.run_door_front.proofs.kept.Kept.next_posting.Goals as goal
+
+pub look-requires : goal.look-requires
+look-requires g c = c.self.invariant c.if-self.false
 
 pub returns-clause-looks : goal.returns-clause-looks
 returns-clause-looks g c =
-    looks-kept _ c.in_ok-next.next _ c.args.self.now c.deref_mut.result.now c.look.new.ports _ c.look.new.links.items c.look.new.traffics.items
+    looks-kept _ c.in_ok-next.next _ c.args.self.now c.deref_mut.result.now c.look.new.doors _ c.look.new.connections.items c.look.new.opened.items
+    c.look.new.queue.items c.look.new.traffics.items
     c.self.view_is c.if-self.false c.deref_mut.ensures.value
-    (written_all c.self.inside.ports.len c.look.new.ports c.self.inside.ports.items c.deref_mut.result.now c.self.inside.ports.ok.0 c.deref_mut.ensures.value
-    c.look.auto.ports)
+    (written_all c.self.inside.doors.len c.look.new.doors c.self.inside.doors.items c.deref_mut.result.now c.self.inside.doors.ok.0 c.deref_mut.ensures.value
+    c.look.auto.doors)
     c.in_ok-next.ensures
+
+pub invariant_of-self : goal.invariant_of-self
+invariant_of-self g c = ?

@@ -1,0 +1,12 @@
+-- The connection that asks is asked where it stands.
+use Rattle.run_door_front.proofs.Handing.{asking_within, asking_is, hands-so}
+use Rattle.run_door_front.proofs.polling.hand_out.Goals as goal
+
+pub index_mut-requires : goal.index_mut-requires
+index_mut-requires g c = asking_within c.args.connections.now c.args.number c.requires
+
+pub ask-requires : goal.ask-requires
+ask-requires g c = (asking_is c.args.connections.now c.args.number c.index_mut.result.now c.requires c.index_mut.ensures.value).1
+
+pub returns : goal.returns
+returns g c = ?
