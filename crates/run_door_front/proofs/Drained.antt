@@ -1,18 +1,18 @@
 -- What is due is written.
-use Rattle.std.proofs.Common.{◌≡◌, ◌≢◌, refl, sym, ap, ap₂, ◌∙◌, subst, arith, ℕ, zero, suc, ◌+◌, ◌-◌, ◌^◌, ◌<◌, ◌≤◌, min, Bool, true, false, ◌||◌, inl, inr, List, [], ◌∷◌, ◌++◌, length, take, drop, set, get_or}
+use Rattle.std.proofs.Common.{◌≡◌, ◌≢◌, refl, sym, ap, ap₂, ◌∙◌, subst, arith, ℕ, zero, suc, ◌+◌, ◌-◌, ◌^◌, ◌<◌, ◌≤◌, min, Bool, true, false, cond, ◌||◌, inl, inr, List, [], ◌∷◌, ◌++◌, length, take, drop, set, get_or}
+use Rattle.std.specs.List.{list_all}
 use Rattle.std.proofs.lemmas.Bool.{true≢false}
 use Rattle.std.proofs.lemmas.List.{length-drop, take_more, take_more_set, drop_more, drop-drop, drop-set-lt}
 use Rattle.std.proofs.lemmas.List.Folds.{list_any-append}
-use Rattle.outside_doors.specs.Counts.{added}
+use Rattle.outside_doors.specs.Counts.{added, has_ended}
 use Rattle.run_theorem.specs.Lines.{most_waits}
 use Rattle.conn_future.specs.declared.stage.Stage.{Stage}
 use Rattle.conn_future.specs.declared.stage.Stage.TheVariants as Stages
 use Rattle.run_door_front.specs.Keeping.{ListenerTold, ClientTold, stage_at}
-use Rattle.run_door_front.specs.NextSteps.{AllGoOn, ClientGoesOn, ClientsGoOn, IsPaused, IsPolled, after_rest}
-use Rattle.run_door_front.specs.Draining.{writes_at, is_writing, any_writing, WritesOn, AreWritten, has_drained, HaveDrained, Drains}
-use Rattle.run_door_front.proofs.Doors.{all-same, all-further}
-use Rattle.run_door_front.proofs.Resting.{all-rested}
-use Rattle.run_door_front.proofs.Links.{client-same, client-further}
+use Rattle.run_door_front.specs.NextSteps.{ClientGoesOn, ClientsGoOn, IsPaused, IsPolled, rested_at, rested_first, rested_open, after_rest}
+use Rattle.run_door_front.specs.Draining.{writes_at, is_writing, any_writing, WritesOn, AreWritten, has_drained, HaveDrained, AreRested, Drains}
+use Rattle.run_door_front.proofs.Doors.{not_fallen, not_fallen-added, fallen_further}
+use Rattle.run_door_front.proofs.Links.{client-same, client-further, clients-same}
 
 writes_is : (s : Stage) → writes_at s ≡ true → s ≡ Stages.Writes
 writes_is Stages.Reads e = absurd (true≢false (sym e))
@@ -113,35 +113,84 @@ all_rounds n (l ∷ ls) (m ∷ ms) h r = (at (is_writing m) refl, all_rounds n l
     at true is = inr (enough (r.0.waits is))
     at false is = inl (writes_not (stage_at m) is)
 
+-- ---- doors that are rested at
+
+pub rested-same : (ps : List ListenerTold) → AreRested ps ps
+rested-same [] = tt
+rested-same (p ∷ ps) = (refl, not_fallen p.door.rests (2 ^ 64 - 1), rested-same ps)
+
+rested_further : (ps qs rs : List ListenerTold) → AreRested ps qs → AreRested qs rs → AreRested ps rs
+rested_further [] [] [] g h = tt
+rested_further [] [] (r ∷ rs) g h = h
+rested_further [] (q ∷ qs) rs g h = absurd g
+rested_further (p ∷ ps) [] rs g h = absurd g
+rested_further (p ∷ ps) (q ∷ qs) [] g h = h
+rested_further (p ∷ ps) (q ∷ qs) (r ∷ rs) g h = (
+  h.0 ∙ ap (λ (x : ListenerTold). record x { door = record x.door { rests = r.door.rests } }) g.0,
+  fallen_further p.door.rests q.door.rests r.door.rests (2 ^ 64 - 1) g.1 h.1,
+  rested_further ps qs rs g.2 h.2,
+)
+
+rested_one : (p : ListenerTold) (ps : List ListenerTold) → AreRested (p ∷ ps) (rested_at p ∷ ps)
+rested_one p ps = (refl, not_fallen-added p.door.rests (added p.door.rests 1) refl, rested-same ps)
+
+rested_by_first : (ps : List ListenerTold) → AreRested ps (rested_first ps)
+rested_by_first [] = tt
+rested_by_first (p ∷ ps) = rested_one p ps
+
+rested_by_open : (ps : List ListenerTold) → AreRested ps (rested_open ps)
+rested_by_open [] = tt
+rested_by_open (p ∷ ps) = at (has_ended p.door)
+  where
+    at : (b : Bool) → AreRested (p ∷ ps) (cond b (p ∷ rested_open ps) (rested_at p ∷ ps))
+    at true = (refl, not_fallen p.door.rests (2 ^ 64 - 1), rested_by_open ps)
+    at false = rested_one p ps
+
+rested_after : (ps : List ListenerTold) → AreRested ps (after_rest ps)
+rested_after ps = at (list_all (λ (p : ListenerTold). has_ended p.door) ps)
+  where
+    at : (b : Bool) → AreRested ps (cond b (rested_first ps) (rested_open ps))
+    at true = rested_by_first ps
+    at false = rested_by_open ps
+
 -- ---- the loop
 
 pub record Draining (n : ℕ) (first doors : List ListenerTold) (ls ms : List ClientTold) : Type 0 where
-  pub goes : AllGoOn first doors
+  pub rested : AreRested first doors
   pub rounds : AllRounds n ls ms
 
 pub draining-none : (doors : List ListenerTold) (ls : List ClientTold) → Draining 0 doors doors ls ls
-draining-none doors ls = record { goes = all-same doors; rounds = rounds-none ls }
+draining-none doors ls = record { rested = rested-same doors; rounds = rounds-none ls }
 
 pub draining-more : (n : ℕ) (first doors later : List ListenerTold) (ls ms ns : List ClientTold) → Draining n first doors ls ms → AreWritten ms ns
     → later ≡ after_rest doors → Draining (n + 1) first later ls ns
 draining-more n first doors later ls ms ns d w is = record {
-  goes = all-further first doors later d.goes (subst (AllGoOn doors) (sym is) (all-rested doors));
+  rested = rested_further first doors later d.rested (subst (AreRested doors) (sym is) (rested_after doors));
   rounds = rounds-more n ls ms ns d.rounds w;
 }
 
-pub draining-end : (n : ℕ) (first doors : List ListenerTold) (ls ms ns : List ClientTold) → Draining n first doors ls ms → AreWritten ms ns → any_writing ns ≡ false
-    → Drains first doors ls ns
-draining-end n first doors ls ms ns d w none = record {
-  doors = d.goes;
+pub draining-end : (n : ℕ) (first doors : List ListenerTold) (ls ms ns : List ClientTold) (halted : Bool) → Draining n first doors ls ms → AreWritten ms ns
+    → any_writing ns ≡ false → Drains halted first doors ls ns
+draining-end n first doors ls ms ns halted d w none = record {
+  doors = d.rested;
   connections = rounds_go (n + 1) ls ns (rounds-more n ls ms ns d.rounds w);
-  drained = none_writes ns none;
+  drained = λ running. none_writes ns none;
 }
 
-pub draining-through : (n : ℕ) (first doors : List ListenerTold) (ls ms : List ClientTold) → most_waits ≤ n → Draining n first doors ls ms → Drains first doors ls ms
-draining-through n first doors ls ms h d = record {
-  doors = d.goes;
+pub draining-through : (n : ℕ) (first doors : List ListenerTold) (ls ms : List ClientTold) (halted : Bool) → most_waits ≤ n → Draining n first doors ls ms
+    → Drains halted first doors ls ms
+draining-through n first doors ls ms halted h d = record {
+  doors = d.rested;
   connections = rounds_go n ls ms d.rounds;
-  drained = all_rounds n ls ms h d.rounds;
+  drained = λ running. all_rounds n ls ms h d.rounds;
+}
+
+-- a front that halted
+pub draining-halted : (doors : List ListenerTold) (ls : List ClientTold) (halted : Bool) → halted ≡ true → Drains halted doors doors ls ls
+draining-halted doors ls halted is = record {
+  doors = rested-same doors;
+  connections = clients-same ls;
+  drained = λ running. absurd (true≢false (sym is ∙ running));
 }
 
 -- ---- a loop over the connections

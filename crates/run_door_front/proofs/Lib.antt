@@ -14,6 +14,7 @@ pub mod Looking
 pub mod Handing
 pub mod Lent
 pub mod Drained
+pub mod Closing
 pub mod Counting
 pub mod Requests
 pub mod OneMore

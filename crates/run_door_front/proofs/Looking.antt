@@ -29,7 +29,7 @@ unasked_links IsMade leads (l ∷ ls) (m ∷ ms) g zero e = unasked l m g.0 e
 unasked_links IsMade leads (l ∷ ls) (m ∷ ms) g (suc k) e = unasked_links IsMade leads ls ms g.1 k e
 
 -- to each service lead as many
-leads_on : (n : ℕ) (ls ms : List ClientTold) → ClientsGoOn ls ms → count_by (leads_to n) ms ≡ count_by (leads_to n) ls
+pub leads_on : (n : ℕ) (ls ms : List ClientTold) → ClientsGoOn ls ms → count_by (leads_to n) ms ≡ count_by (leads_to n) ls
 leads_on n [] [] g = refl
 leads_on n [] (m ∷ ms) g = absurd g
 leads_on n (l ∷ ls) [] g = absurd g

@@ -286,3 +286,23 @@ polls-all test ls ms opened later queue line is kept o p = record {
             let over : IsOver (stage_at link) = closed_over (stage_at link) e in
             let same : now ≡ link = same_Some now found.0 (sym is ∙ found.1) ∙ found.2.rests (inr over) in
             inr (inl (subst (λ (x : ClientTold). IsOver (stage_at x)) (sym same) over))
+
+-- ---- the connection of a number
+
+pub polled-at : (links : List ClientTold) (queue line : List ℕ) (n : ℕ) (l later : ClientTold) → n < length links → l ≡ get_or links n l → IsPolled l later
+    → line ≡ queue ++ newly n l later → IsPolledAt n (lined links queue) (lined (slice_set links n later) line)
+polled-at links queue line n l later inside value p grown = record {
+  link = l;
+  later = later;
+  there = slice_get_read links (length links) n l refl inside value;
+  set = refl;
+  polled = p;
+  line = grown;
+}
+
+-- it came to ask or not
+pub newly-yes : (n : ℕ) (l m : ClientTold) (b : Bool) → b ≡ (not (asks l) && asks m) → b ≡ true → newly n l m ≡ n ∷ []
+newly-yes n l m b is given = ap (λ c. cond c (n ∷ []) []) (sym is ∙ given)
+
+pub newly-no : (n : ℕ) (l m : ClientTold) (b : Bool) → b ≡ (not (asks l) && asks m) → b ≡ false → newly n l m ≡ []
+newly-no n l m b is none = ap (λ c. cond c (n ∷ []) []) (sym is ∙ none)

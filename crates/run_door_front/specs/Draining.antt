@@ -6,7 +6,7 @@ use Rattle.conn_future.specs.declared.stage.Stage.{Stage}
 use Rattle.conn_future.specs.declared.stage.Stage.TheVariants as Stages
 use Rattle.run_theorem.specs.Lines.{most_waits}
 use Rattle.run_door_front.specs.Keeping.{ListenerTold, ClientTold, stage_at}
-use Rattle.run_door_front.specs.NextSteps.{AllGoOn, ClientGoesOn, ClientsGoOn}
+use Rattle.run_door_front.specs.NextSteps.{HasNotFallen, ClientGoesOn, ClientsGoOn}
 
 -- a text goes out at this stage
 abbrev pub writes_at : Stage → Bool
@@ -44,8 +44,16 @@ abbrev pub HaveDrained : List ClientTold → Type 0
 HaveDrained [] = Unit {0}
 HaveDrained (l ∷ ls) = has_drained l × HaveDrained ls
 
--- Doors and connections went on until what was due was written.
-pub record Drains (first later : List ListenerTold) (before now : List ClientTold) : Type 0 where
-  pub doors : AllGoOn first later
+-- doors were rested at, and nothing else was done at them
+abbrev pub AreRested : List ListenerTold → List ListenerTold → Type 0
+AreRested [] [] = Unit {0}
+AreRested [] (q ∷ qs) = ⊥
+AreRested (p ∷ ps) [] = ⊥
+AreRested (p ∷ ps) (q ∷ qs) = (q ≡ record p { door = record p.door { rests = q.door.rests } })
+    × HasNotFallen p.door.rests q.door.rests × AreRested ps qs
+
+-- Connections went on, with rests at doors, until what was due was written, unless the front halted.
+pub record Drains (halted : Bool) (first later : List ListenerTold) (before now : List ClientTold) : Type 0 where
+  pub doors : AreRested first later
   pub connections : ClientsGoOn before now
-  pub drained : HaveDrained now
+  pub drained : halted ≡ false → HaveDrained now

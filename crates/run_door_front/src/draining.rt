@@ -15,23 +15,29 @@ use std::alloc::AllocError;
 const MOST_ROUNDS: u32 = 1_000_000;
 
 impl<D: Door + Drop> Kept<D> {
-    /// The doors and the connections, once all that is due is written, unless a wire can move nothing for too long.
+    /// The doors and the connections, once all that is due is written, unless a wire can move nothing for too long. Where
+    /// the front halted nothing more is written.
     pub fn into_drained(self) -> Result<(Vec<Listener<D>>, Vec<Client<D::W>>), AllocError>
-        ensures { IfOk result (λ parts. Drains self.doors parts.0.items self.connections parts.1.items) }
+        ensures { IfOk result (λ parts. Drains self.halted self.doors parts.0.items self.connections parts.1.items) }
     {
+        let halted = self.halted;
         let (mut doors, mut connections) = self.into_parts();
-        drain(&mut doors, &mut connections)?;
+        drain(halted, &mut doors, &mut connections)?;
         Ok((doors, connections))
     }
 }
 
-/// Polls the connections on which a text goes out until it is out, with a rest between.
+/// Polls the connections on which a text goes out until it is out, with a rest between, unless the front halted.
 fn drain<D: Door + Drop>(
+    halted: bool,
     doors: &mut [Listener<D>],
     connections: &mut [Client<D::W>],
 ) -> Result<(), AllocError>
-    ensures { IfOk result (λ _. Drains doors.old doors.new connections.old connections.new) }
+    ensures { IfOk result (λ _. Drains halted doors.old doors.new connections.old connections.new) }
 {
+    if halted {
+        return Ok(());
+    }
     for _ in 0..MOST_ROUNDS {
         if !write_all(connections)? {
             return Ok(());

@@ -1,5 +1,5 @@
 //! Connections are polled, and the next request in line becomes a posting.
-ghost use Rattle.std.specs.Prelude.{◌≡◌, ◌<◌, true, length, IfOk};
+ghost use Rattle.std.specs.Prelude.{◌≡◌, ◌<◌, ◌&&◌, not, true, length, IfOk};
 ghost use Rattle.conn_future.specs.Stages.{stage_of};
 ghost use Rattle.conn_future.specs.declared.stage.Stage.TheVariants as Stages;
 ghost use Rattle.run_door_front.specs.Keeping.{IsOrdered, asks as asking, asks_there, is_open_there};
@@ -13,6 +13,13 @@ use jsonrpc_text::read_message;
 use office_core::Posting;
 use outside_polling::PollWire;
 use std::alloc::{AllocError, Global};
+
+/// What a poll of a connection came to: whether bytes moved, and whether it came to ask.
+#[derive(Clone, Copy)]
+pub(crate) struct Polled {
+    pub(crate) moved: bool,
+    pub(crate) asks: bool,
+}
 
 /// Polls each open connection. One whose request is whole then comes to the end of the queue, and one that is over is
 /// open no more. It says whether bytes moved. After want of memory nothing is sent of the connections.
@@ -60,10 +67,8 @@ fn poll_at<W: PollWire + Drop>(
         (lined connections.old queue.old.items)
         (lined connections.new queue.new.items)) }
 {
-    let connection = &mut connections[number];
-    let asked = connection.asks();
-    let moved = connection.poll()?;
-    if !asked && connection.asks() {
+    let Polled { moved, asks } = connections[number].poll()?;
+    if asks {
         queue.push(number)?;
     }
     Ok(moved)
@@ -105,22 +110,29 @@ impl<W: PollWire + Drop> Client<W> {
         self.task.stage() == Stage::Asks
     }
 
-    /// Reads and writes as far as the wire goes. It says whether bytes moved.
-    pub(crate) fn poll(&mut self) -> Result<bool, AllocError>
-        ensures { IfOk result (λ _. IsPolled self.old self.new) }
+    /// Reads and writes as far as the wire goes.
+    pub(crate) fn poll(&mut self) -> Result<Polled, AllocError>
+        ensures { IfOk result (λ came. IsPolled self.old self.new
+            × (came.asks ≡ (not (asking self.old) && asking self.new))) }
     {
+        let asked = self.asks();
         let read = self.task.read().len();
         let written = self.task.written().len();
         match self.task.poll() {
-            Poll::Pending => Ok(self.has_moved(read, written)),
-            Poll::Ready(Ok(())) => Ok(true),
+            Poll::Pending => Ok(self.polled(asked, read, written)),
+            Poll::Ready(Ok(())) => Ok(self.polled(asked, read, written)),
             Poll::Ready(Err(AllocError)) => Err(AllocError),
         }
     }
 
-    /// Whether other than so many bytes were read, or other than so many were written.
-    fn has_moved(&self, read: usize, written: usize) -> bool {
-        self.task.read().len() != read || self.task.written().len() != written
+    /// What a poll came to, before which the connection asked or not, and so many bytes had been read and written.
+    fn polled(&self, asked: bool, read: usize, written: usize) -> Polled
+        ensures { result.asks ≡ (not asked && asking self.now) }
+    {
+        Polled {
+            moved: self.task.read().len() != read || self.task.written().len() != written,
+            asks: !asked && self.asks(),
+        }
     }
 
     /// The posting of the request that is whole, which is pending an answer then. The posting has this place.

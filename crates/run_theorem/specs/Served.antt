@@ -1,7 +1,7 @@
 -- What a run over connections posted and wrote.
-use Rattle.std.specs.Prelude.{◌≡◌, ◌≢◌, ℕ, suc, ◌<◌, Bool, true, false, List, length, map, nat_eq}
+use Rattle.std.specs.Prelude.{◌≡◌, ℕ, suc, ◌<◌, Bool, true, false, List, length, map, nat_eq}
 use Rattle.std.specs.Prelude.{Option, Some, slice_get}
-use Rattle.std.specs.List.{list_all, AllByRecursion, AllZip}
+use Rattle.std.specs.List.{list_all, AllZip}
 use Rattle.office_core.specs.declared.history.Entry.{Entry}
 use Rattle.office_core.specs.Limits.{Setting, first_worker}
 use Rattle.office_core.specs.Accepted.{past_of}
@@ -10,7 +10,6 @@ use Rattle.run_record.specs.declared.record.Traffic.{Traffic}
 use Rattle.run_record.specs.Postings.{posts_by, posts_of}
 use Rattle.run_record.specs.Order.{finished_at}
 use Rattle.run_theorem.specs.Texts.{Came, posting_of, response}
-use Rattle.conn_future.specs.declared.stage.Stage.TheVariants as Stages
 use Rattle.run_theorem.specs.Ports.{has_door}
 use Rattle.run_theorem.specs.RunConnections.{RunConnection, came_at, AreTaken, HasPassed}
 
@@ -42,17 +41,12 @@ AreToldEarly w h connections asked = (j : ℕ) (a : Asked) (connection : RunConn
 abbrev pub is_told : RunConnection → Bool
 is_told connection = nat_eq (length connection.texts) (length connection.bodies)
 
--- no text goes out on a connection any more: all that was due on it was written, or a write failed
-abbrev pub has_written : RunConnection → Type 0
-has_written connection = connection.stage ≢ Stages.Writes
-
 -- The requests that were taken from the connections of this traffic were posted to the services of their doors, each
 -- once and those of one connection in their order, by the worker that has the connections; and, whether the front
 -- halted or not, each once the one before it on its connection was answered. What was written on each is what is to be
 -- written where the responses to its postings are told; where a text goes out on it or a write failed, the last of
 -- these, or what is due after it, was cut. The response to each posting was told that was finished before the last one
--- came; and unless the front halted, to each, and all that was due was written or a write failed. Whether a connection
--- has failed its wire tells, when it comes back.
+-- came; and unless the front halted, to each. Whether a connection has failed its wire tells, when it comes back.
 pub record IsServed (w : Setting) (h : List Entry) (halted : Bool) (traffic : List Traffic) : Type 0 where
   pub connections : List RunConnection
   pub all : Requests
@@ -65,4 +59,3 @@ pub record IsServed (w : Setting) (h : List Entry) (halted : Bool) (traffic : Li
   pub responses : AreResponses w h connections all
   pub told_early : AreToldEarly w h connections all.asked
   pub told : halted ≡ false → list_all is_told connections ≡ true
-  pub written : halted ≡ false → AllByRecursion has_written connections

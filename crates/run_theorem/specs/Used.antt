@@ -1,5 +1,5 @@
 -- What a run did with doors: where it opened them, and what came back to them.
-use Rattle.std.specs.Prelude.{◌≡◌, ◌⊎◌, ◌↔◌, ℕ, ◌+◌, ◌≤◌, ◌==◌, Bool, true, false, not, if◌then◌else◌}
+use Rattle.std.specs.Prelude.{◌≡◌, ◌≢◌, ◌⊎◌, ◌↔◌, ℕ, ◌+◌, ◌≤◌, ◌==◌, Bool, true, false, not, if◌then◌else◌}
 use Rattle.std.specs.Prelude.{List, [], ◌∷◌, length, fold, sum_by, count_by, Option, None, Some, nat_eq}
 use Rattle.std.specs.List.{list_any, items_where_true}
 use Rattle.std.specs.Io.KnownBytes.{Appends}
@@ -9,6 +9,7 @@ use Rattle.outside_polling.specs.Polls.{PollTold}
 use Rattle.outside_doors.specs.Returns.{TryTold, try_told, DoorsTold}
 use Rattle.run_record.specs.declared.record.Traffic.{Traffic}
 use Rattle.run_theorem.specs.Ports.{DoorAt, Lead, is_led}
+use Rattle.run_theorem.specs.Lines.{most_waits}
 use Rattle.run_theorem.specs.RunConnections.{RunConnection}
 use Rattle.conn_future.specs.declared.stage.Stage.TheVariants as Stages
 
@@ -124,3 +125,8 @@ abbrev pub AreWires : (WireTold → Type 0) → List RunConnection → List Traf
 AreWires IsMade [] [] [] = Unit {0}
 AreWires IsMade (v ∷ vs) (t ∷ ts) (w ∷ ws) = IsWireOf IsMade v t w.wire × AreWires IsMade vs ts ws
 AreWires IsMade vs ts ws = ⊥
+
+-- No text goes out on a connection any more: all that was due on it was written, or a write failed. Or its wire answered
+-- as often, in all, as a run looks in a row that it can move nothing yet.
+abbrev pub IsWrittenOut : RunConnection → PollTold → Type 0
+IsWrittenOut connection wire = (connection.stage ≢ Stages.Writes) ⊎ (most_waits ≤ wire.waits)
