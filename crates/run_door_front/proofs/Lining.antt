@@ -1,6 +1,6 @@
 -- The numbers of the connections that are open, and of those that ask.
-use Rattle.std.proofs.Common.{◌≡◌, refl, sym, ap, ap₂, ◌∙◌, subst, arith, ℕ, zero, suc, ◌+◌, ◌<◌, ◌≤◌, Bool, true, false, not, cond, ◌&&◌, ◌||◌, List, [], ◌∷◌, ◌++◌, length, Option, None, Some, count_by, slice_get, slice_set, nat_eq, filter, length-append}
-use Rattle.std.specs.List.{list_all, list_any}
+use Rattle.std.proofs.Common.{◌≡◌, refl, sym, ap, ap₂, ◌∙◌, subst, arith, ℕ, zero, suc, ◌+◌, ◌<◌, ◌≤◌, Bool, true, false, not, cond, ◌&&◌, ◌||◌, inl, inr, List, [], ◌∷◌, ◌++◌, length, Option, None, Some, count_by, slice_get, slice_set, nat_eq, length-append}
+use Rattle.std.specs.List.{filter, list_all, list_any}
 use Rattle.std.proofs.lemmas.Bool.{true≢false}
 use Rattle.std.proofs.lemmas.Option.{none-some, same_Some}
 use Rattle.conn_future.specs.declared.stage.Stage.{Stage}
@@ -236,7 +236,7 @@ queue_step : (a b : Bool) (here : Bool) (q : ℕ) (asked : Bool) → (a ≡ true
 queue_step true true true q asked up e same = start q ∙ e ∙ ap one_if (same refl)
 queue_step true true false q asked up e same = start q ∙ e
 queue_step true false here q asked up e same = absurd (true≢false (sym (up refl)))
-queue_step false true true q asked up e same = let none : q ≡ 0 = e ∙ ap one_if (same refl) in omega (arith, none)
+queue_step false true true q asked up e same = ap (λ n. n + 1) (e ∙ ap one_if (same refl))
 queue_step false true false q asked up e same = start q ∙ e
 queue_step false false true q asked up e same = start q ∙ e ∙ ap one_if (same refl)
 queue_step false false false q asked up e same = start q ∙ e

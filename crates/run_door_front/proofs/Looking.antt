@@ -68,7 +68,7 @@ have_paused IsMade leads (l ∷ ls) (m ∷ ms) (n ∷ ns) g h p none = (
 -- ---- how much is left to do
 
 -- the connections that may still come, each for two, and those that may still end
-pub left : ℕ → Going → ℕ
+abbrev pub left : ℕ → Going → ℕ
 left most x = 2 * (most - length x.connections) + length x.opened
 
 module _ (IsMade : WireTold → Type 0) (most : ℕ) where

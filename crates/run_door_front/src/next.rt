@@ -1,5 +1,5 @@
 //! The next posting of a front over doors.
-ghost use Rattle.std.specs.Prelude.{◌≡◌, ◌&&◌, ◌∷◌, [], true, false, IfOk, IsErr, MatchOption, MatchResult};
+ghost use Rattle.std.specs.Prelude.{◌≡◌, ◌&&◌, ◌∷◌, [], true, false, IfOk, OnOk, IsErr, MatchOption, MatchResult};
 ghost use Rattle.std.specs.List.{list_all};
 ghost use Rattle.outside_doors.specs.Counts.{has_ended};
 ghost use Rattle.run_door_front.specs.Keeping.{ListenerTold, IsOrdered, closed_off, owes_there};
@@ -19,13 +19,15 @@ use std::alloc::{AllocError, Global};
 const MOST_POSTINGS: usize = 4_294_967_295;
 
 impl<D: Door + Drop> Kept<D> {
-    /// The next posting. After want of memory nothing is sent of what passed, and no posting comes any more.
-    pub(crate) fn next_posting(&mut self, alloc: Global) -> Result<Next, AllocError>
+    /// The next posting, as a front gives it that this is lent to. After want of memory nothing is sent of what passed, and
+    /// no posting comes any more.
+    pub fn next_posting(&mut self, alloc: Global) -> Result<Next, AllocError>
         ensures looks { MatchResult result
             (λ next. (self.old.spent ≡ false) × (self.new.spent ≡ false)
             × Looks (λ line. (wire : D.W) × (line ≡ (D.W.told wire).wire)) self.old.most next (going_of self.old)
             (going_of self.new))
             (λ _. self.new.spent ≡ true) }
+        ensures ordered { OnOk result (IsOrdered self.new.connections self.new.opened self.new.queue) }
         // A front of which memory ran out answers want of memory from then on.
         ensures refuses { self.old.spent ≡ true → IsErr result × (self.new.spent ≡ true) }
         ensures most { self.new.most ≡ self.old.most }

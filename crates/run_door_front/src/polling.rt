@@ -1,5 +1,6 @@
 //! Connections are polled, and the next request in line becomes a posting.
 ghost use Rattle.std.specs.Prelude.{◌≡◌, ◌<◌, ◌&&◌, not, true, length, IfOk};
+ghost use Rattle.std.specs.List.{filter};
 ghost use Rattle.conn_future.specs.Stages.{stage_of};
 ghost use Rattle.conn_future.specs.declared.stage.Stage.TheVariants as Stages;
 ghost use Rattle.run_door_front.specs.Keeping.{IsOrdered, asks as asking, asks_there, is_open_there};
@@ -34,8 +35,15 @@ pub(crate) fn poll_all<W: PollWire + Drop>(
         (queued connections.new opened.new.items queue.new.items)) }
 {
     let moved = poll_open(connections, opened.as_slice(), queue)?;
-    opened.retain(|number| is_open_at(connections, *number));
+    keep_open(connections, opened);
     Ok(moved)
+}
+
+/// Keeps the numbers of connections that are open.
+fn keep_open<W: PollWire + Drop>(connections: &[Client<W>], numbers: &mut Vec<usize>)
+    ensures { numbers.new.items ≡ filter (is_open_there connections.now) numbers.old.items }
+{
+    numbers.retain(|number| is_open_at(connections, *number));
 }
 
 /// Polls the connections of these numbers.

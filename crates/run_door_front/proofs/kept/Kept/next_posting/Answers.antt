@@ -1,5 +1,5 @@
 -- What a look came to is what the call came to.
-use Rattle.std.proofs.Common.{refl}
+use Rattle.run_door_front.specs.NextSteps.{going}
 use Rattle.run_door_front.proofs.Lent.{written_all, looks-kept}
 use Rattle.run_door_front.proofs.Looking.{looks-ordered}
 use Rattle.run_door_front.proofs.kept.Kept.next_posting.Goals as goal
@@ -16,5 +16,18 @@ returns-clause-looks g c =
     c.look.auto.doors)
     c.in_ok-next.ensures
 
+pub returns-clause-ordered : goal.returns-clause-ordered
+returns-clause-ordered g c =
+    let x = c.self.inside in
+    looks-ordered _ x.most c.in_ok-next.next
+    (going c.deref_mut.result.now x.connections.items x.opened.items x.queue.items x.traffics.items)
+    (going c.look.new.doors c.look.new.connections.items c.look.new.opened.items c.look.new.queue.items c.look.new.traffics.items)
+    c.in_ok-next.ensures (c.self.invariant c.if-self.false)
+
 pub invariant_of-self : goal.invariant_of-self
-invariant_of-self g c = ?
+invariant_of-self g c = λ _.
+    let x = c.self.inside in
+    looks-ordered _ x.most c.in_ok-next.next
+    (going c.deref_mut.result.now x.connections.items x.opened.items x.queue.items x.traffics.items)
+    (going c.look.new.doors c.look.new.connections.items c.look.new.opened.items c.look.new.queue.items c.look.new.traffics.items)
+    c.in_ok-next.ensures (c.self.invariant c.if-self.false)
