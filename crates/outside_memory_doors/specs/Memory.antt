@@ -87,11 +87,15 @@ told_by_scripted line = record {
   door = None;
 }
 
--- what a wire tells whose calls may come too early, and that came at a door: what the wire in it tells, and these
-abbrev pub told_of : {W : Type 0} → (W → WireTold) → Placed (Hasty W) → PollTold
-told_of told came = told_at (Some came.door) (record { wire = told came.wire.wire; waits = came.wire.waits })
+-- what a wire tells of which some calls come too early: what the wire in it tells, and how many of these there were
+abbrev pub polled : {W : Type 0} → (W → WireTold) → Hasty W → PollTold
+polled told line = record { wire = told line.wire; waits = line.waits }
 
--- what comes of a try at a door in memory, whose wires may be called too early
+-- the same of one that came at a door, which it tells
+abbrev pub told_of : {W : Type 0} → (W → WireTold) → Placed (Hasty W) → PollTold
+told_of told came = told_at (Some came.door) (polled told came.wire)
+
+-- what comes of a try at a door in memory, of whose wires some calls come too early
 abbrev pub Tried : Type 0 → Type 0 → Type 0
 Tried W E = Result (Accept (Placed (Hasty W))) E
 

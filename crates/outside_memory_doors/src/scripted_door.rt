@@ -1,4 +1,4 @@
-ghost use Rattle.std.specs.Prelude.{◌≡◌, ◌<◌, ◌++◌, [], ◌∷◌, Ok, Some, false, IsTrue, OnErr, OnOk, IfOk, drop};
+ghost use Rattle.std.specs.Prelude.{◌≡◌, ◌<◌, ◌++◌, [], ◌∷◌, Ok, Some, false, IsTrue, OnErr, OnOk, drop};
 ghost use Rattle.outside_traits.specs.Causes.{HasCause};
 ghost use Rattle.outside_doors.specs.Counts.{rested, untried};
 ghost use Rattle.outside_doors.specs.Attempts.{ComesAt, IfCame, closed_after, waits_after, wires_after};
@@ -7,11 +7,11 @@ ghost use Rattle.outside_memory_doors.specs.Memory.{Answers, scripted_line, told
 ghost use Rattle.outside_memory_doors.specs.declared.visit.Visit.TheVariants.{Comes, Fails, Nobody};
 
 use crate::new_wire::NewWire;
+use crate::poll_wires::ScriptedPollWire;
 use crate::queue::Queue;
 use crate::visit::Visit;
 use outside_doors::{Accept, CountedWire, Door, DoorCounts};
-use outside_polling::EarlyWire;
-use outside_traits::{Failed, Script, ScriptedWire};
+use outside_traits::Failed;
 use std::alloc::{AllocError, Global};
 use std::marker::Model;
 
@@ -61,8 +61,7 @@ impl ScriptedDoor {
         ensures same { OnErr result (self.new.visits ≡ self.old.visits) }
         ensures told { self.new.told ≡ self.old.told }
     {
-        let wire = new_wire(self.alloc, bytes, room, piece, failing)?;
-        let wire = EarlyWire::new(self.alloc, wire, early)?;
+        let wire = ScriptedPollWire::new(self.alloc, bytes, room, piece, failing, early)?;
         self.visits.push(Visit::Comes(NewWire::new(wire)))?;
         Ok(())
     }
@@ -110,11 +109,11 @@ impl ScriptedDoor {
 }
 
 impl Door for ScriptedDoor {
-    type W = CountedWire<EarlyWire<ScriptedWire>>;
+    type W = CountedWire<ScriptedPollWire>;
 
     ghost told = { λ d. d.told };
 
-    fn try_accept(&mut self) -> Result<Accept<CountedWire<EarlyWire<ScriptedWire>>>, Failed>
+    fn try_accept(&mut self) -> Result<Accept<CountedWire<ScriptedPollWire>>, Failed>
         ensures scripted { self.old.told.closed ≡ false → Answers self.old result }
         ensures visits { self.old.told.closed ≡ false → self.new.visits ≡ drop 1 self.old.visits }
         ensures comes { IfCame result (λ wire. ComesAt self.old.told.place (told_of told_by_scripted wire)) }
@@ -154,19 +153,4 @@ impl Door for ScriptedDoor {
     {
         self.counts.add_rest();
     }
-}
-
-/// A wire that was not used yet.
-fn new_wire(
-    alloc: Global,
-    bytes: &[u8],
-    room: usize,
-    piece: usize,
-    failing: &[u64],
-) -> Result<ScriptedWire, AllocError>
-    requires { 0 < piece }
-    ensures { IfOk result (λ wire. wire ≡ scripted_line failing.now piece bytes.now room) }
-{
-    let script = Script::new(alloc, failing)?;
-    ScriptedWire::new(alloc, bytes, room, piece, script)
 }

@@ -1,4 +1,4 @@
-ghost use Rattle.std.specs.Prelude.{◌≡◌, ◌++◌, [], ◌∷◌, Ok, Some, false, IsTrue, OnErr, OnOk, IsOk, IfOk, drop};
+ghost use Rattle.std.specs.Prelude.{◌≡◌, ◌++◌, [], ◌∷◌, Ok, Some, false, IsTrue, OnErr, OnOk, IsOk, drop};
 ghost use Rattle.outside_traits.specs.Causes.{HasCause};
 ghost use Rattle.outside_doors.specs.Counts.{rested, untried};
 ghost use Rattle.outside_doors.specs.Attempts.{ComesAt, IfCame, closed_after, waits_after, wires_after};
@@ -6,10 +6,10 @@ ghost use Rattle.outside_polling.specs.Early.{hasty};
 ghost use Rattle.outside_memory_doors.specs.Memory.{UnfailinglyAnswers, unfailed_line, quiet_after, told_by_unfailed, told_of};
 
 use crate::new_wire::NewWire;
+use crate::poll_wires::UnfailingPollWire;
 use crate::queue::Queue;
 use outside_doors::{Accept, CountedWire, Door, DoorCounts};
-use outside_polling::EarlyWire;
-use outside_traits::{Failed, UnfailingWire};
+use outside_traits::Failed;
 use std::alloc::{AllocError, Global};
 use std::marker::Model;
 
@@ -18,7 +18,7 @@ use std::marker::Model;
 #[derive(Drop)]
 pub struct UnfailingDoor {
     alloc: Global,
-    coming: Queue<NewWire<EarlyWire<UnfailingWire>>>,
+    coming: Queue<NewWire<UnfailingPollWire>>,
     quiet: u64,
     counts: DoorCounts,
 }
@@ -53,8 +53,7 @@ impl UnfailingDoor {
         ensures quiet { self.new.quiet ≡ self.old.quiet }
         ensures told { self.new.told ≡ self.old.told }
     {
-        let wire = new_wire(self.alloc, bytes, room)?;
-        let wire = EarlyWire::new(self.alloc, wire, early)?;
+        let wire = UnfailingPollWire::new(self.alloc, bytes, room, early)?;
         self.coming.push(NewWire::new(wire))?;
         Ok(())
     }
@@ -82,11 +81,11 @@ impl UnfailingDoor {
 }
 
 impl Door for UnfailingDoor {
-    type W = CountedWire<EarlyWire<UnfailingWire>>;
+    type W = CountedWire<UnfailingPollWire>;
 
     ghost told = { λ d. d.told };
 
-    fn try_accept(&mut self) -> Result<Accept<CountedWire<EarlyWire<UnfailingWire>>>, Failed>
+    fn try_accept(&mut self) -> Result<Accept<CountedWire<UnfailingPollWire>>, Failed>
         ensures unfailed { IsOk result }
         ensures answer { self.old.told.closed ≡ false → UnfailinglyAnswers self.old result }
         ensures coming { self.old.told.closed ≡ false → self.new.coming ≡ drop 1 self.old.coming }
@@ -121,11 +120,4 @@ impl Door for UnfailingDoor {
     {
         self.counts.add_rest();
     }
-}
-
-/// A wire that was not used yet.
-fn new_wire(alloc: Global, bytes: &[u8], room: usize) -> Result<UnfailingWire, AllocError>
-    ensures { IfOk result (λ wire. wire ≡ unfailed_line bytes.now room) }
-{
-    UnfailingWire::new(alloc, bytes, room)
 }

@@ -2,8 +2,7 @@
 
 use crate::outside::doors::visits::add_bytes;
 use outside_doors::{Counts, DoorCounts, Return, Try};
-use outside_polling::EarlyWire;
-use outside_traits::{ScriptedWire, UnfailingWire};
+use outside_memory_doors::{ScriptedPollWire, UnfailingPollWire};
 use std::alloc::{AllocError, Global};
 
 /// The counts, in a line.
@@ -80,11 +79,11 @@ fn tell_close(is_closed: bool, said: &mut String) -> Result<(), AllocError> {
 /// The wires that came back, a line each.
 pub fn tell_unfailed(
     alloc: Global,
-    returned: &[Return<EarlyWire<UnfailingWire>>],
+    returned: &[Return<UnfailingPollWire>],
     said: &mut String,
 ) -> Result<(), AllocError> {
     for back in returned {
-        let wire = back.wire().wire();
+        let wire = back.wire();
         tell_bytes(wire.given(), wire.taken(), said)?;
         tell_failures(back.is_lost(), back.is_cut(), said)?;
         tell_end(back.has_ended(), said)?;
@@ -96,11 +95,11 @@ pub fn tell_unfailed(
 /// The same of wires that follow a script.
 pub fn tell_scripted(
     alloc: Global,
-    returned: &[Return<EarlyWire<ScriptedWire>>],
+    returned: &[Return<ScriptedPollWire>],
     said: &mut String,
 ) -> Result<(), AllocError> {
     for back in returned {
-        let wire = back.wire().wire();
+        let wire = back.wire();
         tell_bytes(wire.given(), wire.taken(), said)?;
         tell_failures(back.is_lost(), back.is_cut(), said)?;
         tell_end(back.has_ended(), said)?;
