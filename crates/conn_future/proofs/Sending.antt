@@ -106,6 +106,10 @@ pub none_left : (left : List ℕ) → length left == 0 ≡ true → left ≡ []
 none_left [] e = refl
 none_left (x ∷ left) e = absurd (let n = eqb-true (length (x ∷ left)) 0 e in omega (arith, n))
 
+-- of a text that is not empty something is left
+pub not_none : (left now : List ℕ) → now ≡ left → 0 < length left → length now == 0 ≡ true → ⊥
+not_none left now same some none = let gone = ap length (sym same ∙ none_left now none) in omega (arith, some, gone)
+
 all_out : (close : Bool) (sent : Outgoing) (place : Place) (l : Log) (o : IsOut close sent place l) → sent.left ≡ [] → sent.out ≡ due o.last o.text
 all_out close sent place l o e = sym (append-nil sent.out) ∙ ap (λ x. sent.out ++ x) (sym e) ∙ o.whole
 

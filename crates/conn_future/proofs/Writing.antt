@@ -20,7 +20,7 @@ use Rattle.conn_future.specs.declared.stage.Standing.{Standing}
 use Rattle.conn_future.specs.declared.stage.Standing.TheVariants as Stands
 use Rattle.conn_future.specs.declared.kept.Kept.{Kept}
 use Rattle.conn_future.specs.Outgoing.{Outgoing}
-use Rattle.conn_future.specs.Stages.{plain_standing, stage_of, is_sending}
+use Rattle.conn_future.specs.Stages.{plain_standing, stage_of}
 use Rattle.conn_future.specs.Talking.{Seen, plain, closes_behind, IsOut, IsWriting, IsTalking}
 use Rattle.conn_future.specs.Steps.{outgoing, IsSame, HandsOut}
 use Rattle.conn_future.proofs.Standing.{stays, talks_at, carried_spent, spent_now}
@@ -30,7 +30,7 @@ use Rattle.conn_future.proofs.Standing.{stays, talks_at, carried_spent, spent_no
 pub response_some : (status : ℕ) (body : List ℕ) (close : Bool) → 0 < length (response status body close)
 response_some status body close = omega arith
 
-pub interim_some : 0 < length interim
+interim_some : 0 < length interim
 interim_some = omega arith
 
 pub answer_some : (text : Option (List ℕ)) (close : Bool) → 0 < length (answer text close)
@@ -40,10 +40,6 @@ answer_some None close = response_some 204 [] close
 pub some_left : (left : List ℕ) → length left == 0 ≡ false → 0 < length left
 some_left [] e = absurd (cc)
 some_left (x ∷ left) e = omega arith
-
--- a connection on which no text goes out
-pub unsent_at : (now next : Standing) (left : List ℕ) → now ≡ next → is_sending next ≡ false → is_sending now ≡ true → 0 < length left
-unsent_at now next left e none sends = absurd (let f = sym sends ∙ ap is_sending e ∙ none in cc)
 
 -- ---- what stays as it was
 

@@ -1,5 +1,5 @@
 -- How a connection stands, to its user and in the plain form, over a wire that waits.
-use Rattle.std.specs.Prelude.{◌≡◌, ◌⊎◌, ℕ, Bool, true, false, Result, Ok, Err}
+use Rattle.std.specs.Prelude.{◌≡◌, ◌⊎◌, ℕ, Result, Ok, Err}
 use Rattle.futures.specs.declared.task.Poll.{Poll}
 use Rattle.futures.specs.declared.task.Poll.TheVariants.{Ready, Pending}
 use Rattle.outside_polling.specs.Polls.{once_more}
@@ -30,16 +30,6 @@ stage_of (Stands.Says close) = Stages.Writes
 stage_of (Stands.Sends close) = Stages.Writes
 stage_of (Stands.Over ending) = stage_behind ending
 stage_of Stands.Spent = Stages.Spent
-
--- a text goes out on a connection that stands so
-abbrev pub is_sending : Standing → Bool
-is_sending Stands.Waits = false
-is_sending (Stands.Holds body close) = false
-is_sending (Stands.Owes close) = false
-is_sending (Stands.Says close) = false
-is_sending (Stands.Sends close) = true
-is_sending (Stands.Over ending) = false
-is_sending Stands.Spent = false
 
 -- a request that is whole has no answer yet: it is handed out next, or it was
 abbrev pub IsUnanswered : Stage → Type 0

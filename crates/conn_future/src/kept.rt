@@ -1,6 +1,10 @@
 //! What a connection keeps beside its wire.
-ghost use Rattle.std.specs.Prelude.{◌≡◌, ◌<◌, true, length};
-ghost use Rattle.conn_future.specs.Stages.{is_sending};
+ghost use Rattle.std.specs.Prelude.{◌≡◌, [], false, None, IfOk};
+ghost use Rattle.http_port.specs.Feeding.{Open, Feeds};
+ghost use Rattle.conn_future.specs.Stages.{stage_of};
+ghost use Rattle.conn_future.specs.Steps.{outgoing, HandsOut, IsSame, Says};
+ghost use Rattle.conn_future.specs.declared.stage.Stage.TheVariants as Stages;
+ghost use Rattle.conn_future.specs.declared.stage.Standing.TheVariants as Stands;
 
 use crate::due::Due;
 use crate::stage::Standing;
@@ -21,17 +25,9 @@ pub struct Kept {
     pub(crate) said: Option<Bytes>,
     pub(crate) due: Due,
     pub(crate) next: Standing,
-    ghost unsent: { is_sending next ≡ true → 0 < length due.left },
 }
 
 impl Kept {
-    ghost use Rattle.std.specs.Prelude.{[], false, None, IfOk};
-    ghost use Rattle.http_port.specs.Feeding.{Open, Feeds};
-    ghost use Rattle.conn_future.specs.Stages.{stage_of};
-    ghost use Rattle.conn_future.specs.Steps.{outgoing, HandsOut, IsSame, Says};
-    ghost use Rattle.conn_future.specs.declared.stage.Stage.TheVariants as Stages;
-    ghost use Rattle.conn_future.specs.declared.stage.Standing.TheVariants as Stands;
-
     /// Before anything passed.
     pub(crate) fn new(alloc: Global) -> Kept
         ensures reader { result.reader ≡ Open [] false }
@@ -50,9 +46,8 @@ impl Kept {
         }
     }
 
-    /// Goes on so, without a text that goes out.
+    /// Goes on so.
     pub(crate) fn stand(&mut self, next: Standing)
-        requires { is_sending next ≡ false }
         ensures next { self.new.next ≡ next }
         ensures same { IsSame self.old self.new }
         ensures said { self.new.said ≡ self.old.said }
@@ -61,20 +56,8 @@ impl Kept {
         self.next = next;
     }
 
-    /// Has the rest of the text go out, with which the connection closes or goes on.
-    pub(crate) fn send_on(&mut self, close: bool)
-        requires { 0 < length self.old.due.left }
-        ensures next { self.new.next ≡ Stands.Sends close }
-        ensures same { IsSame self.old self.new }
-        ensures said { self.new.said ≡ self.old.said }
-        ensures due { self.new.due ≡ self.old.due }
-    {
-        self.next = Standing::Sends { close };
-    }
-
     /// Has a text go out, with which the connection closes or goes on.
     pub(crate) fn send(&mut self, text: Bytes, close: bool)
-        requires { 0 < length text }
         ensures next { self.new.next ≡ Stands.Sends close }
         ensures same { IsSame self.old self.new }
         ensures due { self.new.due ≡ outgoing text }

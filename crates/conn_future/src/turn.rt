@@ -130,11 +130,15 @@ fn write_on<W: PollWire>(wire: &mut W, kept: &mut Kept, close: bool) -> Result<T
     ensures made { unmade kept.new.next ≡ 0 }
 {
     kept.stand(Standing::Spent);
+    if kept.due.is_out() {
+        // It never is: no text that goes out is empty, and one that is out goes no further.
+        return Ok(finish(wire, kept, Ending::Closed));
+    }
     let rest = kept.due.left();
     kept.written.reserve(rest.len())?;
     match wire.try_write(rest) {
         Ok(Ready::NotYet) => {
-            kept.send_on(close);
+            kept.stand(Standing::Sends { close });
             Ok(Turn::Waits)
         }
         Ok(Ready::Done(count)) => {
@@ -160,7 +164,7 @@ fn go_behind<W: PollWire>(wire: &mut W, kept: &mut Kept, close: bool) -> Result<
     ensures made { unmade kept.new.next ≡ 0 }
 {
     if !kept.due.is_out() {
-        kept.send_on(close);
+        kept.stand(Standing::Sends { close });
         return Ok(Turn::GoesOn);
     }
     if close {

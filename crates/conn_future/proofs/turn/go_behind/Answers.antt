@@ -2,15 +2,15 @@
 use Rattle.std.proofs.Common.{refl, sym, ◌∙◌, subst}
 use Rattle.http_connection.specs.Talking.{log_of}
 use Rattle.conn_future.specs.Talking.{seen, plain, IsOut}
-use Rattle.conn_future.proofs.Writing.{rest_goes_out, some_left}
+use Rattle.conn_future.proofs.Writing.{rest_goes_out}
 use Rattle.conn_future.proofs.Sending.{goes_on, closes_now, none_left}
 use Rattle.conn_future.proofs.turn.go_behind.Goals as goal
 
 pub returns-then-not-is_out-clause-talks : goal.returns-then-not-is_out-clause-talks
 returns-then-not-is_out-clause-talks g c = λ first bodies texts carried out.
     let was = seen c.args.kept.now (g.W.PollWire.told c.args.wire.now) in
-    let now = seen c.send_on.new.self (g.W.PollWire.told c.args.wire.now) in
-    rest_goes_out first was now c.args.close bodies texts carried out (sym c.is_out.ensures ∙ c.if-not-is_out.true) c.send_on.ensures.same c.send_on.ensures.due refl c.send_on.ensures.next
+    let now = seen c.stand.new.self (g.W.PollWire.told c.args.wire.now) in
+    rest_goes_out first was now c.args.close bodies texts carried out (sym c.is_out.ensures ∙ c.if-not-is_out.true) c.stand.ensures.same c.stand.ensures.due refl c.stand.ensures.next
 
 pub returns-then-close-clause-talks : goal.returns-then-close-clause-talks
 returns-then-close-clause-talks g c = λ first bodies texts carried out.
@@ -32,6 +32,3 @@ returns-clause-talks g c = λ first bodies texts carried out.
     c.in_ok-go_on.ensures.talks first was.line bodies texts
     (goes_on first was bodies texts carried (subst (λ close. IsOut close was.kept.due was.kept.reader (log_of (plain was) bodies texts)) c.if-close.false out)
     (none_left was.kept.due.left (sym c.is_out.ensures ∙ c.if-not-is_out.false)))
-
-pub send_on-requires : goal.send_on-requires
-send_on-requires g c = some_left _ (sym c.is_out.ensures ∙ c.if-not-is_out.true)

@@ -1,9 +1,9 @@
 -- What was given is waited for, held, or has a text go out.
-use Rattle.std.proofs.Common.{◌<◌, true, [], length, refl, sym, subst}
+use Rattle.std.proofs.Common.{refl, subst}
 use Rattle.http_connection.specs.Steps.{IsFed}
 use Rattle.conn_future.specs.Talking.{Seen, plain}
 use Rattle.conn_future.proofs.Standing.{waits_now, holds_now, fed_spent}
-use Rattle.conn_future.proofs.Writing.{invites, refuses, interim_some, response_some}
+use Rattle.conn_future.proofs.Writing.{invites, refuses}
 use Rattle.conn_future.proofs.turn.take_up.Goals as goal
 
 pub returns-in-NotYet-clause-talks : goal.returns-in-NotYet-clause-talks
@@ -40,9 +40,3 @@ returns-in_ok-text-in-Refused-clause-talks c = λ first line bodies texts f.
     let now : Seen = record { kept = c.send-in-Refused.new.self; line = line } in
     refuses first was now c.in-Refused.status _ bodies texts (subst (λ x. IsFed first (plain was) x bodies texts) c.in-Refused.is f)
     c.send-in-Refused.ensures.same refl c.send-in-Refused.ensures.due c.in_ok-text-in-Refused.ensures c.send-in-Refused.ensures.next
-
-pub send-requires : goal.send-requires
-send-requires c = subst (λ t. 0 < length t) (sym c.in_ok-text-in-Interim.ensures) interim_some
-
-pub send-in-Refused-requires : goal.send-in-Refused-requires
-send-in-Refused-requires c = subst (λ t. 0 < length t) (sym c.in_ok-text-in-Refused.ensures) (response_some c.in-Refused.status [] true)

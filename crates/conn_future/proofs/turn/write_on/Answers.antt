@@ -5,12 +5,12 @@ use Rattle.http_connection.specs.Talking.{log_of}
 use Rattle.http_connection.specs.Prompt.{OnlyWrites}
 use Rattle.http_connection.proofs.Calls.{called_writes}
 use Rattle.outside_polling.specs.Polls.{PollTold}
-use Rattle.conn_future.specs.declared.stage.Standing.TheVariants as Stands
 use Rattle.conn_future.specs.Outgoing.{Outgoing}
-use Rattle.conn_future.specs.Stages.{stage_of, is_sending}
+use Rattle.conn_future.specs.Stages.{stage_of}
 use Rattle.conn_future.specs.Talking.{seen, plain}
-use Rattle.conn_future.proofs.Writing.{moved, unsent_at}
-use Rattle.conn_future.proofs.Sending.{Wrote, sending, wrote_carried, wrote_out, cut_now}
+use Rattle.conn_future.specs.Steps.{unmade}
+use Rattle.conn_future.proofs.Writing.{moved, some_left}
+use Rattle.conn_future.proofs.Sending.{Wrote, sending, not_none, wrote_carried, wrote_out, cut_now}
 use Rattle.conn_future.proofs.Standing.{spends_sending}
 use Rattle.conn_future.proofs.Turning.{stops_since, over_stops, one_write, taken_count, nothing_called, write_less, any_less, over_less}
 use Rattle.conn_future.proofs.turn.write_on.Goals as goal
@@ -26,22 +26,22 @@ returns-in_err-reserve-clause-talks g c = λ first bodies texts h.
 pub returns-in-Ok-NotYet-clause-talks : goal.returns-in-Ok-NotYet-clause-talks
 returns-in-Ok-NotYet-clause-talks g c = λ first bodies texts h.
     let was = seen c.args.kept.now (g.W.PollWire.told c.args.wire.now) in
-    let now = seen c.send_on.new.self (g.W.PollWire.told c.try_write.new.self) in
+    let now = seen c.stand-in-Ok-NotYet.new.self (g.W.PollWire.told c.try_write.new.self) in
     moved first was now bodies texts h
     (record {
-      reader = c.send_on.ensures.same.reader ∙ c.stand.ensures.same.reader;
-      read = c.send_on.ensures.same.read ∙ c.stand.ensures.same.read;
+      reader = c.stand-in-Ok-NotYet.ensures.same.reader ∙ c.stand.ensures.same.reader;
+      read = c.stand-in-Ok-NotYet.ensures.same.read ∙ c.stand.ensures.same.read;
       written = search rules;
     })
-    (c.send_on.ensures.said ∙ c.stand.ensures.said)
-    (c.send_on.ensures.due ∙ c.stand.ensures.due)
+    (c.stand-in-Ok-NotYet.ensures.said ∙ c.stand.ensures.said)
+    (c.stand-in-Ok-NotYet.ensures.due ∙ c.stand.ensures.due)
     (ap (λ (t : PollTold). t.wire) (rw c.in-Ok-NotYet.field-0-is at c.in-Ok-NotYet.ensures.writes).1)
-    (c.send_on.ensures.next ∙ sym c.requires)
+    (c.stand-in-Ok-NotYet.ensures.next ∙ sym c.requires)
 
 pub returns-in-Ok-Done-clause-talks : goal.returns-in-Ok-Done-clause-talks
 returns-in-Ok-Done-clause-talks g c = λ first bodies texts h.
     let was = seen c.args.kept.now (g.W.PollWire.told c.args.wire.now) in
-    let mid = seen (record c.stand.new.self { written = c.extend_from_slice.new.self; due = c.advance.new.self; unsent = unsent_at _ Stands.Spent _ c.stand.ensures.next refl }) (g.W.PollWire.told c.try_write.new.self) in
+    let mid = seen (record c.stand.new.self { written = c.extend_from_slice.new.self; due = c.advance.new.self }) (g.W.PollWire.told c.try_write.new.self) in
     let n = c.in-Ok-Done.count in
     let did = (rw c.in-Ok-Done.field-0-is at c.in-Ok-Done.ensures.writes).0 in
     let same : c.left-rest.result.now ≡ was.kept.due.left = c.left-rest.ensures ∙ ap (λ (d : Outgoing). d.left) c.stand.ensures.due in
@@ -67,7 +67,7 @@ pub returns-in-Err-clause-talks : goal.returns-in-Err-clause-talks
 returns-in-Err-clause-talks g c = λ first bodies texts h.
     let was = seen c.args.kept.now (g.W.PollWire.told c.args.wire.now) in
     let mid = seen (record c.stand.new.self { written = c.reserve.new.self }) (g.W.PollWire.told c.try_write.new.self) in
-    let now = seen c.finish.new.kept (g.W.PollWire.told c.finish.new.wire) in
+    let now = seen c.finish-in-Err.new.kept (g.W.PollWire.told c.finish-in-Err.new.wire) in
     let did = c.in-Err.ensures.writes.0 in
     let at = sending first was c.args.close bodies texts h c.requires in
     cut_now first was mid now c.args.close bodies texts at.0 at.1 at.2
@@ -82,7 +82,7 @@ returns-in-Err-clause-talks g c = λ first bodies texts h.
       written = search rules;
       reader = c.stand.ensures.same.reader;
     })
-    c.finish.ensures.finishes
+    c.finish-in-Err.ensures.finishes
 
 pub returns-in_err-reserve-clause-called : goal.returns-in_err-reserve-clause-called
 returns-in_err-reserve-clause-called g c = λ first bodies texts h.
@@ -94,10 +94,10 @@ returns-in_err-reserve-clause-called g c = λ first bodies texts h.
 pub returns-in-Ok-NotYet-clause-called : goal.returns-in-Ok-NotYet-clause-called
 returns-in-Ok-NotYet-clause-called g c = λ first bodies texts h.
     nothing_called (seen c.args.kept.now (g.W.PollWire.told c.args.wire.now))
-    (seen c.send_on.new.self (g.W.PollWire.told c.try_write.new.self)) bodies texts
+    (seen c.stand-in-Ok-NotYet.new.self (g.W.PollWire.told c.try_write.new.self)) bodies texts
     (record {
-      reader = c.send_on.ensures.same.reader ∙ c.stand.ensures.same.reader;
-      read = c.send_on.ensures.same.read ∙ c.stand.ensures.same.read;
+      reader = c.stand-in-Ok-NotYet.ensures.same.reader ∙ c.stand.ensures.same.reader;
+      read = c.stand-in-Ok-NotYet.ensures.same.read ∙ c.stand.ensures.same.read;
       written = search rules;
     })
     (ap (λ (t : PollTold). t.wire.calls) (rw c.in-Ok-NotYet.field-0-is at c.in-Ok-NotYet.ensures.writes).1)
@@ -118,15 +118,15 @@ returns-in-Ok-Done-clause-called g c = λ first bodies texts h.
 pub returns-in-Err-clause-called : goal.returns-in-Err-clause-called
 returns-in-Err-clause-called g c = λ first bodies texts h.
     let was = seen c.args.kept.now (g.W.PollWire.told c.args.wire.now) in
-    let now = seen c.finish.new.kept (g.W.PollWire.told c.finish.new.wire) in
+    let now = seen c.finish-in-Err.new.kept (g.W.PollWire.told c.finish-in-Err.new.wire) in
     called_writes was.line.calls now.line.calls (log_of (plain was) bodies texts) (log_of (plain now) bodies texts)
-    (subst (λ l. OnlyWrites was.line.calls l was.kept.written.items now.kept.written.items) (sym c.finish.ensures.calls)
+    (subst (λ l. OnlyWrites was.line.calls l was.kept.written.items now.kept.written.items) (sym c.finish-in-Err.ensures.calls)
     (one_write was.line.calls (g.W.PollWire.told c.try_write.new.self).wire.calls was.kept.written.items now.kept.written.items [] 0
-    c.in-Err.ensures.writes.0.calls refl (c.finish.ensures.finishes.plainly.written ∙ (search rules))))
-    (c.finish.ensures.finishes.plainly.read ∙ c.stand.ensures.same.read)
+    c.in-Err.ensures.writes.0.calls refl (c.finish-in-Err.ensures.finishes.plainly.written ∙ (search rules))))
+    (c.finish-in-Err.ensures.finishes.plainly.read ∙ c.stand.ensures.same.read)
 
 pub returns-in-Ok-NotYet-clause-stops : goal.returns-in-Ok-NotYet-clause-stops
-returns-in-Ok-NotYet-clause-stops g c = (ap (λ (t : PollTold). t.waits) (rw c.in-Ok-NotYet.field-0-is at c.in-Ok-NotYet.ensures.writes).1, inr (ap stage_of c.send_on.ensures.next))
+returns-in-Ok-NotYet-clause-stops g c = (ap (λ (t : PollTold). t.waits) (rw c.in-Ok-NotYet.field-0-is at c.in-Ok-NotYet.ensures.writes).1, inr (ap stage_of c.stand-in-Ok-NotYet.ensures.next))
 
 pub returns-in-Ok-Done-clause-stops : goal.returns-in-Ok-Done-clause-stops
 returns-in-Ok-Done-clause-stops g c =
@@ -135,8 +135,8 @@ returns-in-Ok-Done-clause-stops g c =
 
 pub returns-in-Err-clause-stops : goal.returns-in-Err-clause-stops
 returns-in-Err-clause-stops g c =
-    over_stops c.finish.result (g.W.PollWire.told c.args.wire.now).waits (g.W.PollWire.told c.finish.new.wire).waits c.finish.new.kept.next _
-    c.finish.ensures.turn (c.finish.ensures.waits ∙ c.in-Err.ensures.writes.1) c.finish.ensures.finishes.next
+    over_stops c.finish-in-Err.result (g.W.PollWire.told c.args.wire.now).waits (g.W.PollWire.told c.finish-in-Err.new.wire).waits c.finish-in-Err.new.kept.next _
+    c.finish-in-Err.ensures.turn (c.finish-in-Err.ensures.waits ∙ c.in-Err.ensures.writes.1) c.finish-in-Err.ensures.finishes.next
 
 pub returns-in-Ok-Done-clause-less : goal.returns-in-Ok-Done-clause-less
 returns-in-Ok-Done-clause-less g c =
@@ -145,8 +145,7 @@ returns-in-Ok-Done-clause-less g c =
     let rest = c.left-rest.result.now in
     let did = (rw c.in-Ok-Done.field-0-is at c.in-Ok-Done.ensures.writes).0 in
     let v = c.extend_from_slice.new.self in
-    let whole : rest ≡ was.due.left = c.left-rest.ensures ∙ ap (λ (d : Outgoing). d.left) c.stand.ensures.due in
-    let some = did.some (subst (λ l. 0 < length l) (sym whole) (was.unsent (ap is_sending c.requires))) in
+    let some = did.some (subst (λ l. 0 < length l) (sym c.left-rest.ensures) (some_left _ (sym c.is_out.ensures ∙ c.if-is_out.false))) in
     let grown : v.items ≡ was.written.items ++ take n rest = search rules in
     let longer = ap length grown ∙ length-append was.written.items (take n rest) in
     let count = taken_count n rest rest (rw c.in-Ok-Done.field-0-is at c.in-Ok-Done.ensures.bound) refl in
@@ -159,4 +158,27 @@ returns-in-Ok-Done-clause-less g c =
     c.go_behind.ensures.made)
 
 pub returns-in-Err-clause-less : goal.returns-in-Err-clause-less
-returns-in-Err-clause-less g c = over_less c.finish.result c.args.kept.now c.finish.new.kept c.finish.ensures.turn
+returns-in-Err-clause-less g c = over_less c.finish-in-Err.result c.args.kept.now c.finish-in-Err.new.kept c.finish-in-Err.ensures.turn
+
+pub returns-then-is_out-clause-talks : goal.returns-then-is_out-clause-talks
+returns-then-is_out-clause-talks g c = λ first bodies texts h.
+    let was = seen c.args.kept.now (g.W.PollWire.told c.args.wire.now) in
+    absurd (not_none was.kept.due.left c.stand.new.self.due.left (ap (λ (d : Outgoing). d.left) c.stand.ensures.due)
+    (sending first was c.args.close bodies texts h c.requires).2 (sym c.is_out.ensures ∙ c.if-is_out.true))
+
+pub returns-then-is_out-clause-called : goal.returns-then-is_out-clause-called
+returns-then-is_out-clause-called g c = λ first bodies texts h.
+    let was = seen c.args.kept.now (g.W.PollWire.told c.args.wire.now) in
+    absurd (not_none was.kept.due.left c.stand.new.self.due.left (ap (λ (d : Outgoing). d.left) c.stand.ensures.due)
+    (sending first was c.args.close bodies texts h c.requires).2 (sym c.is_out.ensures ∙ c.if-is_out.true))
+
+pub returns-then-is_out-clause-stops : goal.returns-then-is_out-clause-stops
+returns-then-is_out-clause-stops g c =
+    over_stops c.finish.result (g.W.PollWire.told c.args.wire.now).waits (g.W.PollWire.told c.finish.new.wire).waits c.finish.new.kept.next _
+    c.finish.ensures.turn c.finish.ensures.waits c.finish.ensures.finishes.next
+
+pub returns-then-is_out-clause-less : goal.returns-then-is_out-clause-less
+returns-then-is_out-clause-less g c = over_less c.finish.result c.args.kept.now c.finish.new.kept c.finish.ensures.turn
+
+pub returns-then-is_out-clause-made : goal.returns-then-is_out-clause-made
+returns-then-is_out-clause-made g c = ap unmade c.finish.ensures.finishes.next
