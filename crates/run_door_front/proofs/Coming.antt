@@ -65,6 +65,10 @@ room_fewer most accepted opened h =
     let both = and_parts (nat_lt accepted most) (nat_lt opened most_open) h in
     (ltb-true accepted most both.0, ltb-true opened most_open both.1)
 
+-- what a test of how many there are tells
+pub room-tested : (most a b accepted opened : ℕ) (r test : Bool) → accepted ≡ a → opened ≡ b → r ≡ has_room most accepted opened → r ≡ test → has_room most a b ≡ test
+room-tested most a b accepted opened r test p q is passed = ap₂ (has_room most) (sym p) (sym q) ∙ sym is ∙ passed
+
 -- what is left of a list is as it was where its first is set
 pub unvisited-step : (ps qs : List ListenerTold) (i : ℕ) (q : ListenerTold) → drop i qs ≡ drop i ps → drop (i + 1) (set qs i q) ≡ drop (i + 1) ps
 unvisited-step ps qs i q rest =

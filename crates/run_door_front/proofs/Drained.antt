@@ -2,7 +2,7 @@
 use Rattle.std.proofs.Common.{◌≡◌, ◌≢◌, refl, sym, ap, ap₂, ◌∙◌, subst, arith, ℕ, zero, suc, ◌+◌, ◌-◌, ◌^◌, ◌<◌, ◌≤◌, min, Bool, true, false, cond, ◌||◌, inl, inr, List, [], ◌∷◌, ◌++◌, length, take, drop, set, get_or}
 use Rattle.std.specs.List.{list_all}
 use Rattle.std.proofs.lemmas.Bool.{true≢false}
-use Rattle.std.proofs.lemmas.List.{length-drop, take_more, take_more_set, drop_more, drop-drop, drop-set-lt}
+use Rattle.std.proofs.lemmas.List.{length-drop, take_more, take_more_set, take_all, drop_more, drop-drop, drop-set-lt}
 use Rattle.std.proofs.lemmas.List.Folds.{list_any-append}
 use Rattle.outside_doors.specs.Counts.{added, has_ended}
 use Rattle.run_theorem.specs.Lines.{most_waits}
@@ -228,12 +228,28 @@ left_as_was ls ms i m rest =
     let one : i < i + 1 = omega arith in
     drop-set-lt (i + 1) ms i m one ∙ sym (drop-drop 1 i ms) ∙ ap (drop 1) rest ∙ drop-drop 1 i ls
 
-pub writing-step : (ls ms : List ClientTold) (i : ℕ) (m : ClientTold) (before one : Bool) → i < length ls → length ms ≡ length ls → before ≡ any_writing (take i ms)
+pub writing-step : (ls ms : List ClientTold) (i : ℕ) (m : ClientTold) (before one : Bool) → i < length ls → drop i ms ≡ drop i ls → before ≡ any_writing (take i ms)
     → one ≡ is_writing m → before || one ≡ any_writing (take (i + 1) (set ms i m))
-writing-step ls ms i m before one inside same was is =
+writing-step ls ms i m before one inside rest was is =
+    let long = ap length rest in
+    let lt : i < length ms = within (length ms) (length ls) i (sym (length-drop i ms) ∙ long ∙ length-drop i ls) inside in
     ap₂ (λ a b. a || b) was (is ∙ or_false (is_writing m)) ∙ sym (list_any-append is_writing (take i ms) (m ∷ []))
-    ∙ ap any_writing (sym (take_more_set ms i m (subst (λ n. i < n) (sym same) inside)))
+    ∙ ap any_writing (sym (take_more_set ms i m lt))
   where
+    within : (a b i : ℕ) → a - i ≡ b - i → i < b → i < a
+    within a b i e h = omega arith
+
     or_false : (a : Bool) → a ≡ a || false
     or_false true = refl
     or_false false = refl
+
+pub writes-end : (ls ms : List ClientTold) (i : ℕ) (writes : Bool) → length ls ≤ i → drop i ms ≡ drop i ls → writes ≡ any_writing (take i ms)
+    → AreWritten (take i ls) (take i ms) → (writes ≡ any_writing ms) × AreWritten ls ms
+writes-end ls ms i writes short rest was w =
+    let past : length ms ≤ i = none_left (length ms) (length ls) i (sym (length-drop i ms) ∙ ap length rest ∙ length-drop i ls) short in (
+      was ∙ ap any_writing (take_all i ms past),
+      subst (λ xs. AreWritten xs ms) (take_all i ls short) (subst (λ ys. AreWritten (take i ls) ys) (take_all i ms past) w),
+    )
+  where
+    none_left : (a b i : ℕ) → a - i ≡ b - i → b ≤ i → a ≤ i
+    none_left a b i e h = omega arith

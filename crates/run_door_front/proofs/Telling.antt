@@ -10,7 +10,7 @@ use Rattle.run_door_front.specs.AnswerSteps.{HasTold, HasAnswered}
 pub answered_so : (parts : ProgramParts) (t : Told) (before now : Keeping) (number : ℕ) (link after : ClientTold)
     → slice_get before.traffics t.place ≡ Some number → slice_get before.connections number ≡ Some link → now.connections ≡ slice_set before.connections number after
     → HasTold parts t link after → now.doors ≡ before.doors → now.traffics ≡ before.traffics → now.most ≡ before.most → now.halted ≡ before.halted
-    → now.spent ≡ false → HasAnswered parts t before now
+    → now.spent ≡ before.spent → HasAnswered parts t before now
 answered_so parts t before now number link after place there links tells ports traffics most halted spent = record {
   number = number;
   place = place;

@@ -89,4 +89,4 @@ pub record HasAnswered (parts : ProgramParts) (told : Told) (before now : Keepin
   pub traffics : now.traffics ≡ before.traffics
   pub most : now.most ≡ before.most
   pub halted : now.halted ≡ before.halted
-  pub spent : now.spent ≡ false
+  pub spent : now.spent ≡ before.spent

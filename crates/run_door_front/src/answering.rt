@@ -36,9 +36,10 @@ impl<D: Door + Drop> Kept<D> {
         let Some(number) = awaited(&self.traffics, &self.connections, place) else {
             return Ok(());
         };
+        let spent = self.spent;
         self.spent = true;
         self.connections[number].answer(alloc, program, outcomes)?;
-        self.spent = false;
+        self.spent = spent;
         Ok(())
     }
 }

@@ -1,7 +1,6 @@
 -- One more came at the door, or nobody does.
-use Rattle.std.proofs.Common.{◌≡◌, refl, sym, ap, ap₂, ◌∙◌, arith, true, length}
-use Rattle.run_door_front.specs.NextSteps.{has_room}
-use Rattle.run_door_front.proofs.Coming.{door-at, new_link-at, takes-none, takes-next, accepts-one, accepts-tried}
+use Rattle.std.proofs.Common.{refl, ap, ◌∙◌, ◌∷◌, ◌++◌, [], arith, true, false, inl}
+use Rattle.run_door_front.proofs.Coming.{door-at, new_link-at, room-tested, takes-none, takes-next, accepts-one, accepts-tried}
 use Rattle.run_door_front.proofs.accepting.accept_at.Goals as goal
 
 pub loop-alloc-init : goal.loop-alloc-init
@@ -18,8 +17,10 @@ loop-alloc-preserved g c =
     c.new.ensures.stage
     (door-at (g.D.W.PollWire.told w) c.loop-alloc.door.door.place c.new.result c.in-Some.ensures.comes c.new.ensures.talks)
     (c.new.ensures.service ∙ c.service.ensures)
-    ?
-    (omega arith) ? ?
+    (room-tested c.args.most _ _ c.len.result c.len-2.result c.has_room.result true (c.len.ensures ∙ c.loop-alloc.connections.ok.0)
+    (c.len-2.ensures ∙ c.loop-alloc.opened.ok.0) c.has_room.ensures c.loop-alloc-test.true)
+    (omega arith) c.in_ok-push-connections.ensures.items
+    (c.in_ok-push-in-Some.ensures.items ∙ ap (λ n. c.loop-alloc.opened.items ++ n ∷ []) (c.len-in-Some.ensures ∙ c.loop-alloc.connections.ok.0))
 
 pub returns-in-None : goal.returns-in-None
 returns-in-None g c =
@@ -30,4 +31,5 @@ returns-in-None g c =
 pub returns : goal.returns
 returns g c =
     accepts-one _ c.args.most c.args.door.now c.loop-alloc.door c.args.connections.now.items c.loop-alloc.connections.items
-    c.args.opened.now.items c.loop-alloc.opened.items c.loop-alloc.invariant (inl ?)
+    c.args.opened.now.items c.loop-alloc.opened.items c.loop-alloc.invariant (inl (room-tested c.args.most _ _ c.len.result c.len-2.result c.has_room.result false
+    (c.len.ensures ∙ c.loop-alloc.connections.ok.0) (c.len-2.ensures ∙ c.loop-alloc.opened.ok.0) c.has_room.ensures c.loop-alloc-test.false))

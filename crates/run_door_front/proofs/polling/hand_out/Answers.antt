@@ -1,4 +1,5 @@
 -- The connection that asks is asked where it stands.
+use Rattle.std.proofs.Common.{◌∙◌}
 use Rattle.run_door_front.proofs.Handing.{asking_within, asking_is, hands-so}
 use Rattle.run_door_front.proofs.polling.hand_out.Goals as goal
 
@@ -9,4 +10,6 @@ pub ask-requires : goal.ask-requires
 ask-requires g c = (asking_is c.args.connections.now c.args.number c.index_mut.result.now c.requires c.index_mut.ensures.value).1
 
 pub returns : goal.returns
-returns g c = ?
+returns g c =
+    hands-so c.args.connections.now c.args.traffics.now.items c.push.new.self.items c.args.number c.len-place.result c.index_mut.result.now c.ask.new.self
+    c.in_ok-posting.posting c.requires c.index_mut.ensures.value (c.len-place.ensures ∙ c.args.traffics.now.ok.0) c.in_ok-posting.ensures c.in_ok-push.ensures.items

@@ -7,6 +7,7 @@ use Rattle.run_door_front.specs.Keeping.{Keeping}
 use Rattle.run_door_front.specs.AnswerSteps.{awaited, told_of}
 use Rattle.run_door_front.proofs.Telling.{answered_so}
 use Rattle.run_door_front.proofs.Owing.{awaited_there, awaited_is}
+use Rattle.run_door_front.proofs.Lining.{ordered-told}
 use Rattle.run_door_front.proofs.kept.Kept.answer.Goals as goal
 
 pub index_mut-requires : goal.index_mut-requires
@@ -43,7 +44,7 @@ returns-clause-answered g c = λ n h.
     (ap (λ (k : Keeping). slice_get k.connections number) (sym same) ∙ is.0)
     (ap (λ (k : Keeping). slice_set k.connections number c.answer.new.self) same)
     (c.in_ok-answer.ensures place is.1) (ap (λ (k : Keeping). k.doors) same) (ap (λ (k : Keeping). k.traffics) same) (ap (λ (k : Keeping). k.most) same)
-    (ap (λ (k : Keeping). k.halted) same) refl
+    (ap (λ (k : Keeping). k.halted) same) (ap (λ (k : Keeping). k.spent) same)
 
 pub returns-clause-nobody : goal.returns-clause-nobody
 returns-clause-nobody g c = λ none.
@@ -62,3 +63,15 @@ returns-in_default-clause-answered g c = λ n h.
 
 pub returns-in_default-clause-nobody : goal.returns-in_default-clause-nobody
 returns-in_default-clause-nobody g c = λ none. (refl, refl)
+
+pub invariant_of-self : goal.invariant_of-self
+invariant_of-self g c = λ unspent.
+    let x = c.self.inside in
+    let place = c.args.place in
+    let number = c.in-Some.number in
+    let link = c.index_mut.result.now in
+    let found : awaited place x.connections.items x.traffics.items ≡ Some number =
+    ap₂ (awaited place) (sym c.deref-2.ensures.value) (sym c.deref.ensures.value) ∙ sym c.awaited.ensures ∙ c.in-Some.is in
+    let is = awaited_is place number x.connections.items x.traffics.items link found c.index_mut.ensures.value in
+    let told = c.in_ok-answer.ensures place is.1 in
+    ordered-told x.connections.items x.opened.items x.queue.items number link c.answer.new.self is.0 told.tells.owing told.tells.writes (c.self.invariant unspent)
