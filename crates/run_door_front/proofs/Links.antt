@@ -31,11 +31,11 @@ less m n k h l = omega arith
 
 -- where there is no more room there is none where more came
 pub no_room-more : (most a b o p : ℕ) → a ≤ b → o ≤ p → has_room most a o ≡ false → has_room most b p ≡ false
-no_room-more most a b o p more open none = not_true (has_room most b p) (λ e.
+no_room-more most a b o p more wider none = not_true (has_room most b p) (λ e.
     let both = and_parts (nat_lt b most) (nat_lt p most_open) e in
     true≢false (sym (and_from (nat_lt a most) (nat_lt o most_open)
     (lt-ltb a most (less a b most more (ltb-true b most both.0)))
-    (lt-ltb o most_open (less o p most_open open (ltb-true p most_open both.1)))) ∙ none))
+    (lt-ltb o most_open (less o p most_open wider (ltb-true p most_open both.1)))) ∙ none))
 
 -- ---- new connections
 

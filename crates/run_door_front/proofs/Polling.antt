@@ -188,7 +188,7 @@ polls-more ns n x y z p at = record {
     here k e link later was now =
         let same : n ≡ k = nat_eq_is n k e in
         let set : at.later ≡ later = same_Some at.later later
-            (sym (get_set_same y.connections n at.link at.later at.there) ∙ ap (λ ls. slice_get ls n) (sym at.set) ∙ ap (slice_get z.connections) same ∙ now) in
+        (sym (get_set_same y.connections n at.link at.later at.there) ∙ ap (λ ls. slice_get ls n) (sym at.set) ∙ ap (slice_get z.connections) same ∙ now) in
         let found = clients-at x.connections y.connections k link p.goes was in
         let mid : found.0 ≡ at.link = same_Some found.0 at.link (sym found.1 ∙ ap (slice_get y.connections) (sym same) ∙ at.there) in
         subst (IsPaused link.waits) set

@@ -199,7 +199,7 @@ none_for_wire (l ∷ ls) e =
     at false false h = refl
 
 some_waits : (a b : ℕ) → added a 1 ≤ b → 0 < b
-some_waits a b h = by (2 ^ 64 - 1) (omega arith)
+some_waits a b h = by (2 ^ 64 - 1) h (omega arith)
   where
     by : (cap : ℕ) → min (a + 1) cap ≤ b → 0 < cap → 0 < b
     by cap h k = omega arith
@@ -285,13 +285,13 @@ module _ (IsMade : WireTold → Type 0) (parts : ProgramParts) (leads : List Lea
   from_zero : (i : ℕ) → 0 + i ≡ i
   from_zero i = omega arith
 
-  abbrev Answers : ℕ → List ClientTold → Type 0
-  Answers k ms = (i : ℕ) (link : ClientTold) → slice_get ms i ≡ Some link → owes link ≡ true → HadNoAnswer d (k + i)
+  abbrev HaveNone : ℕ → List ClientTold → Type 0
+  HaveNone k ms = (i : ℕ) (link : ClientTold) → slice_get ms i ≡ Some link → owes link ≡ true → HadNoAnswer d (k + i)
 
-  rest_answers : (k : ℕ) (m : ClientTold) (ms : List ClientTold) → Answers k (m ∷ ms) → Answers (suc k) ms
+  rest_answers : (k : ℕ) (m : ClientTold) (ms : List ClientTold) → HaveNone k (m ∷ ms) → HaveNone (suc k) ms
   rest_answers k m ms f i link is o = subst (HadNoAnswer d) (sym (further k i)) (f (suc i) link is o)
 
-  all_paused : (k : ℕ) (ls ms : List ClientTold) → HavePaused ls ms → Answers k ms → WerePaused d k (map pause_of ms) ms
+  all_paused : (k : ℕ) (ls ms : List ClientTold) → HavePaused ls ms → HaveNone k ms → WerePaused d k (map pause_of ms) ms
   all_paused k [] [] h f = tt
   all_paused k [] (m ∷ ms) h f =
       (paused_by k 0 m h.0 (λ o. subst (HadNoAnswer d) (here k) (f 0 m refl o)), all_paused (suc k) [] ms h.1 (rest_answers k m ms f))
@@ -299,13 +299,13 @@ module _ (IsMade : WireTold → Type 0) (parts : ProgramParts) (leads : List Lea
   all_paused k (l ∷ ls) (m ∷ ms) h f =
       (paused_by k l.waits m h.0 (λ o. subst (HadNoAnswer d) (here k) (f 0 m refl o)), all_paused (suc k) ls ms h.1 (rest_answers k m ms f))
 
-  all_owe : (k : ℕ) (ms : List ClientTold) → all_owing ms ≡ true → Answers k ms → WerePaused d k (map pause_of ms) ms
+  all_owe : (k : ℕ) (ms : List ClientTold) → all_owing ms ≡ true → HaveNone k ms → WerePaused d k (map pause_of ms) ms
   all_owe k [] e f = tt
   all_owe k (m ∷ ms) e f =
       let both = and_parts (owes m || not (is_open m)) (all_owing ms) e in
       (owing_by k m both.0 (λ o. subst (HadNoAnswer d) (here k) (f 0 m refl o)), all_owe (suc k) ms both.1 (rest_answers k m ms f))
 
-  answers : Answers 0 links
+  answers : HaveNone 0 links
   answers i link is o = subst (HadNoAnswer d) (sym (from_zero i)) (owes-unanswered i link is o)
 
   pub paused-all : (before : List ClientTold) → HavePaused before links → WerePaused d 0 (map pause_of links) links

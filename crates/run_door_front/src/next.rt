@@ -118,7 +118,11 @@ fn is_done<D: Door + Drop>(
 }
 
 /// Whether no connection can come any more.
-fn is_closed_off<D: Door + Drop>(doors: &[Listener<D>], connections: &[Client<D::W>], most: u32) -> bool
+fn is_closed_off<D: Door + Drop>(
+    doors: &[Listener<D>],
+    connections: &[Client<D::W>],
+    most: u32,
+) -> bool
     ensures { result ≡ closed_off most doors.now connections.now }
 {
     most as usize <= connections.len() || have_ended(doors)
