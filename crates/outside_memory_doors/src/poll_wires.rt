@@ -27,8 +27,9 @@ impl Model for UnfailingPollWire {
 }
 
 impl UnfailingPollWire {
-    /// A wire that was not used yet.
-    pub(crate) fn new(
+    /// A wire on which these bytes come in, and `room` bytes go out in all. Its calls of the numbers in `early`, from 0,
+    /// come too early.
+    pub fn new(
         alloc: Global,
         bytes: &[u8],
         room: usize,
@@ -102,8 +103,10 @@ impl Model for ScriptedPollWire {
 }
 
 impl ScriptedPollWire {
-    /// A wire that was not used yet.
-    pub(crate) fn new(
+    /// A wire on which these bytes come in, and `room` bytes go out in all, at most `piece` a call either way. Of its
+    /// calls, from 0, those of the numbers in `early` come too early; of all others, from 0 again, those of the numbers
+    /// in `failing` fail.
+    pub fn new(
         alloc: Global,
         bytes: &[u8],
         room: usize,

@@ -17,21 +17,29 @@ struct Fields {
     early: &'static str,
 }
 
-const A: Fields = fields("a", "a_fails", "a_early");
+const A: Fields = Fields {
+    bytes: "a",
+    fails: "a_fails",
+    early: "a_early",
+};
 
-const B: Fields = fields("b", "b_fails", "b_early");
+const B: Fields = Fields {
+    bytes: "b",
+    fails: "b_fails",
+    early: "b_early",
+};
 
-const C: Fields = fields("c", "c_fails", "c_early");
+const C: Fields = Fields {
+    bytes: "c",
+    fails: "c_fails",
+    early: "c_early",
+};
 
-const D: Fields = fields("d", "d_fails", "d_early");
-
-const fn fields(bytes: &'static str, fails: &'static str, early: &'static str) -> Fields {
-    Fields {
-        bytes,
-        fails,
-        early,
-    }
-}
+const D: Fields = Fields {
+    bytes: "d",
+    fails: "d_fails",
+    early: "d_early",
+};
 
 /// A door for each line: each word is what a try at it comes to. A door fails to open where its line is `!`.
 pub fn doors(alloc: Global, row: &Row<'_>) -> Result<ScriptedDoors, TableError> {

@@ -3,8 +3,7 @@
 use conn_future::{ConnTask, Stage, Traffic};
 use futures::task::Poll;
 use jolie_trees::Bytes;
-use outside_polling::EarlyWire;
-use outside_traits::{Script, ScriptedWire};
+use outside_memory_doors::ScriptedPollWire;
 use std::alloc::{AllocError, Global};
 
 /// For how many bytes a wire has room.
@@ -20,7 +19,7 @@ const EARLY: u64 = 2000;
 #[derive(Drop)]
 struct Polled<'a> {
     alloc: Global,
-    task: ConnTask<EarlyWire<ScriptedWire>>,
+    task: ConnTask<ScriptedPollWire>,
     words: Vec<&'a str>,
     told: usize,
     asked: String,
@@ -89,7 +88,7 @@ impl<'a> Polled<'a> {
         } = self;
         let end = name_of(task.stage());
         let (traffic, wire) = task.into_parts();
-        let end = if is_told(wire.wire(), &traffic) {
+        let end = if is_told(&wire, &traffic) {
             end
         } else {
             "the wire tells another"
@@ -102,7 +101,7 @@ impl<'a> Polled<'a> {
 }
 
 /// Whether a wire tells this of what passed.
-fn is_told(wire: &ScriptedWire, traffic: &Traffic) -> bool {
+fn is_told(wire: &ScriptedPollWire, traffic: &Traffic) -> bool {
     wire.given() == traffic.read.as_slice() && wire.taken() == traffic.written.as_slice()
 }
 
@@ -114,11 +113,9 @@ fn said(alloc: Global, word: &str) -> Result<Option<Bytes>, AllocError> {
 }
 
 /// A wire that moves one byte a call, each second call of which comes too early.
-fn early_wire(alloc: Global, stream: &[u8]) -> Result<EarlyWire<ScriptedWire>, AllocError> {
+fn early_wire(alloc: Global, stream: &[u8]) -> Result<ScriptedPollWire, AllocError> {
     let early = even_numbers(alloc)?;
-    let script = Script::new(alloc, &[])?;
-    let wire = ScriptedWire::new(alloc, stream, ROOM, 1, script)?;
-    EarlyWire::new(alloc, wire, early.as_slice())
+    ScriptedPollWire::new(alloc, stream, ROOM, 1, &[], early.as_slice())
 }
 
 fn even_numbers(alloc: Global) -> Result<Vec<u64>, AllocError> {

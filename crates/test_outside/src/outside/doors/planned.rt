@@ -12,8 +12,10 @@ use test_rows::{Row, TableError};
 /// For how many bytes a wire has room.
 const ROOM: usize = 4;
 
-/// Which calls of a wire come too early, where its word ends in `~`.
+/// Which calls of a wire come too early, where its word ends in `~`, and where it does not.
 const EARLY: &[u64] = &[0, 3];
+
+const NEVER: &[u64] = &[];
 
 /// Visits the doors of a row, a line each, at the locations that are opened, and says what came and what is told then.
 pub fn done(alloc: Global, row: &Row<'_>) -> Result<String, TableError> {
@@ -149,6 +151,6 @@ fn expect_connection(door: &mut ScriptedDoor, word: &str) -> Result<(), AllocErr
 fn early_calls(word: &str) -> (&str, &[u64]) {
     match word.strip_suffix("~") {
         Some(rest) => (rest, EARLY),
-        None => (word, &[]),
+        None => (word, NEVER),
     }
 }
