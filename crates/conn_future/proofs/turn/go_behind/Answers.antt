@@ -1,7 +1,8 @@
 -- The rest goes out, or what follows is taken up.
-use Rattle.std.proofs.Common.{refl, sym, ◌∙◌, subst}
+use Rattle.std.proofs.Common.{refl, sym, ◌∙◌, subst, ap}
 use Rattle.http_connection.specs.Talking.{log_of}
 use Rattle.conn_future.specs.Talking.{seen, plain, IsOut}
+use Rattle.conn_future.specs.Steps.{unmade}
 use Rattle.conn_future.proofs.Writing.{rest_goes_out}
 use Rattle.conn_future.proofs.Sending.{goes_on, closes_now, none_left}
 use Rattle.conn_future.proofs.turn.go_behind.Goals as goal
@@ -32,3 +33,15 @@ returns-clause-talks g c = λ first bodies texts carried out.
     c.in_ok-go_on.ensures.talks first was.line bodies texts
     (goes_on first was bodies texts carried (subst (λ close. IsOut close was.kept.due was.kept.reader (log_of (plain was) bodies texts)) c.if-close.false out)
     (none_left was.kept.due.left (sym c.is_out.ensures ∙ c.if-not-is_out.false)))
+
+pub returns-then-not-is_out-clause-made : goal.returns-then-not-is_out-clause-made
+returns-then-not-is_out-clause-made g c = ap unmade c.stand.ensures.next
+
+pub returns-then-close-clause-made : goal.returns-then-close-clause-made
+returns-then-close-clause-made g c = ap unmade c.finish.ensures.finishes.next
+
+pub returns-in_err-go_on-clause-made : goal.returns-in_err-go_on-clause-made
+returns-in_err-go_on-clause-made g c = c.in_err-go_on.ensures.made
+
+pub returns-clause-made : goal.returns-clause-made
+returns-clause-made g c = c.in_ok-go_on.ensures.made

@@ -11,6 +11,7 @@ use Rattle.http_connection.proofs.Calls.{called_read}
 use Rattle.outside_polling.specs.Polls.{PollTold}
 use Rattle.conn_future.specs.Stages.{plain_standing, stage_of}
 use Rattle.conn_future.specs.Talking.{seen, plain}
+use Rattle.conn_future.specs.Steps.{unmade}
 use Rattle.conn_future.proofs.Standing.{waits_fed, waits_spent, ended_now, read_failed_now}
 use Rattle.conn_future.proofs.Writing.{moved}
 use Rattle.conn_future.proofs.Turning.{over_stops, nothing_called, read_less, over_less}
@@ -213,3 +214,21 @@ returns-in-Ok-Done-eq0-clause-less g c = over_less c.finish.result c.args.kept.n
 
 pub returns-in-Err-clause-less : goal.returns-in-Err-clause-less
 returns-in-Err-clause-less g c = over_less c.finish-in-Err.result c.args.kept.now c.finish-in-Err.new.kept c.finish-in-Err.ensures.turn
+
+pub returns-in_err-reserve-clause-made : goal.returns-in_err-reserve-clause-made
+returns-in_err-reserve-clause-made g c = ap unmade c.stand.ensures.next
+
+pub returns-in-Ok-NotYet-clause-made : goal.returns-in-Ok-NotYet-clause-made
+returns-in-Ok-NotYet-clause-made g c = ap unmade c.stand-in-Ok-NotYet.ensures.next
+
+pub returns-in-Ok-Done-eq0-clause-made : goal.returns-in-Ok-Done-eq0-clause-made
+returns-in-Ok-Done-eq0-clause-made g c = ap unmade c.finish.ensures.finishes.next
+
+pub returns-in_err-go_on-in-Ok-Done-clause-made : goal.returns-in_err-go_on-in-Ok-Done-clause-made
+returns-in_err-go_on-in-Ok-Done-clause-made g c = c.in_err-go_on-in-Ok-Done.ensures.made
+
+pub returns-in_ok-go_on-in-Ok-Done-clause-made : goal.returns-in_ok-go_on-in-Ok-Done-clause-made
+returns-in_ok-go_on-in-Ok-Done-clause-made g c = c.in_ok-go_on-in-Ok-Done.ensures.made
+
+pub returns-in-Err-clause-made : goal.returns-in-Err-clause-made
+returns-in-Err-clause-made g c = ap unmade c.finish-in-Err.ensures.finishes.next

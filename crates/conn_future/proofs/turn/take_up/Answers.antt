@@ -1,7 +1,8 @@
 -- What was given is waited for, held, or has a text go out.
-use Rattle.std.proofs.Common.{refl, subst}
+use Rattle.std.proofs.Common.{refl, subst, ap}
 use Rattle.http_connection.specs.Steps.{IsFed}
 use Rattle.conn_future.specs.Talking.{Seen, plain}
+use Rattle.conn_future.specs.Steps.{unmade}
 use Rattle.conn_future.proofs.Standing.{waits_now, holds_now, fed_spent}
 use Rattle.conn_future.proofs.Writing.{invites, refuses}
 use Rattle.conn_future.proofs.turn.take_up.Goals as goal
@@ -40,3 +41,21 @@ returns-in_ok-text-in-Refused-clause-talks c = λ first line bodies texts f.
     let now : Seen = record { kept = c.send-in-Refused.new.self; line = line } in
     refuses first was now c.in-Refused.status _ bodies texts (subst (λ x. IsFed first (plain was) x bodies texts) c.in-Refused.is f)
     c.send-in-Refused.ensures.same refl c.send-in-Refused.ensures.due c.in_ok-text-in-Refused.ensures c.send-in-Refused.ensures.next
+
+pub returns-in-NotYet-clause-made : goal.returns-in-NotYet-clause-made
+returns-in-NotYet-clause-made c = ap unmade c.stand.ensures.next
+
+pub returns-in_err-text-in-Interim-clause-made : goal.returns-in_err-text-in-Interim-clause-made
+returns-in_err-text-in-Interim-clause-made c = ap unmade c.requires
+
+pub returns-in_ok-text-in-Interim-clause-made : goal.returns-in_ok-text-in-Interim-clause-made
+returns-in_ok-text-in-Interim-clause-made c = ap unmade c.send.ensures.next
+
+pub returns-in-Request-clause-made : goal.returns-in-Request-clause-made
+returns-in-Request-clause-made c = ap unmade c.stand-in-Request.ensures.next
+
+pub returns-in_err-text-in-Refused-clause-made : goal.returns-in_err-text-in-Refused-clause-made
+returns-in_err-text-in-Refused-clause-made c = ap unmade c.requires
+
+pub returns-in_ok-text-in-Refused-clause-made : goal.returns-in_ok-text-in-Refused-clause-made
+returns-in_ok-text-in-Refused-clause-made c = ap unmade c.send-in-Refused.ensures.next

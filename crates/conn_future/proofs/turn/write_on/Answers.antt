@@ -182,3 +182,15 @@ returns-then-is_out-clause-less g c = over_less c.finish.result c.args.kept.now 
 
 pub returns-then-is_out-clause-made : goal.returns-then-is_out-clause-made
 returns-then-is_out-clause-made g c = ap unmade c.finish.ensures.finishes.next
+
+pub returns-in_err-reserve-clause-made : goal.returns-in_err-reserve-clause-made
+returns-in_err-reserve-clause-made g c = ap unmade c.stand.ensures.next
+
+pub returns-in-Ok-NotYet-clause-made : goal.returns-in-Ok-NotYet-clause-made
+returns-in-Ok-NotYet-clause-made g c = ap unmade c.stand-in-Ok-NotYet.ensures.next
+
+pub returns-in-Ok-Done-clause-made : goal.returns-in-Ok-Done-clause-made
+returns-in-Ok-Done-clause-made g c = c.go_behind.ensures.made
+
+pub returns-in-Err-clause-made : goal.returns-in-Err-clause-made
+returns-in-Err-clause-made g c = ap unmade c.finish-in-Err.ensures.finishes.next
