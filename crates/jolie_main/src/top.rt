@@ -212,7 +212,7 @@ fn serve_text<K: Sink, N: Sink, D: Doors, L: Link>(
 ) -> Result<Ended, AllocError>
     requires link { 0 < length links.old.items }
     ensures serves { (files : FilesTold) (input : SourceTold) → IfOk result (λ ended. Serves
-        (λ line. (wire : D.D.W) × (line ≡ D.D.W.told wire))
+        (λ line. (wire : D.D.W) × (line ≡ (D.D.W.told wire).wire))
         command.now text.now ended
         (record {
           before = record {
@@ -255,7 +255,7 @@ fn serve_program<N: Sink, D: Doors, L: Link>(
     requires link { 0 < length links.old.items }
     ensures doored { (files : FilesTold) (input : SourceTold) (output : SinkTold) → IfOk result (λ ended. ByFirst
         (λ run. IsDoored
-        (λ line. (wire : D.D.W) × (line ≡ D.D.W.told wire))
+        (λ line. (wire : D.D.W) × (line ≡ (D.D.W.told wire).wire))
         command.now.connections (record { parts = parts_of program; text = text.now; budget = command.now.budget; picks = [] }) run ended)
         (record {
           before = record {

@@ -36,5 +36,5 @@ impl<F: Files, S: Source, K: Sink, N: Sink, D: Doors, L: Link> Telling for World
       links = map (λ l. L.told l) w.links.items;
     } };
 
-    ghost made = { λ line. (wire : D.D.W) × (line ≡ D.D.W.told wire) };
+    ghost made = { λ line. (wire : D.D.W) × (line ≡ (D.D.W.told wire).wire) };
 }

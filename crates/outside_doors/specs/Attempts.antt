@@ -4,6 +4,7 @@ use Rattle.outside_doors.specs.Counts.{added}
 use Rattle.outside_doors.specs.declared.traits.Accept.{Accept}
 use Rattle.outside_doors.specs.declared.traits.Accept.TheVariants.{Came, NotYet, Closed}
 use Rattle.outside_traits.specs.Told.{WireTold}
+use Rattle.outside_polling.specs.Polls.{PollTold}
 
 -- P of the connection that came, where one came
 abbrev pub IfCame : {W E : Type 0} → Result (Accept W) E → (W → Type 0) → Type 0
@@ -44,7 +45,8 @@ pub record IsFresh (wire : WireTold) : Type 0 where
   pub unended : wire.ended ≡ false
   pub is_open : wire.closed ≡ false
 
--- A connection as it comes at the door of this place, which it tells.
-pub record ComesAt (place : ℕ) (wire : WireTold) : Type 0 where
-  pub fresh : IsFresh wire
-  pub door : wire.door ≡ Some place
+-- A connection as it comes at the door of this place, which it tells. It has not answered yet that it can move nothing.
+pub record ComesAt (place : ℕ) (told : PollTold) : Type 0 where
+  pub fresh : IsFresh told.wire
+  pub unwaited : told.waits ≡ 0
+  pub door : told.wire.door ≡ Some place

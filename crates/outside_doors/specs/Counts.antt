@@ -1,6 +1,6 @@
 -- What doors count.
 use Rattle.std.specs.Prelude.{ℕ, ◌+◌, ◌-◌, ◌^◌, min, Bool, false, not, ◌||◌, ◌==◌, if◌then◌else◌}
-use Rattle.outside_traits.specs.Told.{WireTold}
+use Rattle.outside_polling.specs.Polls.{PollTold}
 
 -- a count to which so many are added; it stops at the last value of its type
 abbrev pub added : ℕ → ℕ → ℕ
@@ -55,7 +55,8 @@ pub record Tally : Type 0 where
   pub wires_cut : ℕ
   -- those of them of which a read had told the end of what comes in
   pub wires_ended : ℕ
-  -- the waits of all doors that came back; a wire that blocks has none
+  -- the waits of all doors and wires that came back: how often they answered that nobody has come yet, or that they can
+  -- move nothing yet
   pub waits : ℕ
 
 -- before anything was opened
@@ -85,15 +86,16 @@ with_door door tally = record tally {
   waits = added tally.waits door.waits;
 }
 
--- a wire came back; a read of it had failed or not, a write had or not, and it had ended or not
-abbrev pub with_return : Bool → Bool → Bool → Tally → Tally
-with_return read_failed write_failed ended tally = record tally {
+-- a wire came back; a read of it had failed or not, a write had or not, it had ended or not, and it had waited so often
+abbrev pub with_return : Bool → Bool → Bool → ℕ → Tally → Tally
+with_return read_failed write_failed ended waits tally = record tally {
   wires_back = added tally.wires_back 1;
   wires_lost = added_if read_failed tally.wires_lost;
   wires_cut = added_if write_failed tally.wires_cut;
   wires_ended = added_if ended tally.wires_ended;
+  waits = added tally.waits waits;
 }
 
 -- a wire came back that told this
-abbrev pub with_wire : WireTold → Tally → Tally
-with_wire wire tally = with_return wire.read_failed wire.write_failed wire.ended tally
+abbrev pub with_wire : PollTold → Tally → Tally
+with_wire told tally = with_return told.wire.read_failed told.wire.write_failed told.wire.ended told.waits tally

@@ -1,7 +1,7 @@
 -- What is told of the tries to open a door and of the wires that came back, and what doors keep of these and of the
 -- doors that came back.
 use Rattle.std.specs.Prelude.{ℕ, Bool, List, [], Option, Some}
-use Rattle.outside_traits.specs.Told.{WireTold}
+use Rattle.outside_polling.specs.Polls.{PollTold}
 use Rattle.outside_doors.specs.Counts.{DoorTold, Tally, no_tally}
 
 -- a try to open a door: where, and whether it was opened
@@ -22,6 +22,10 @@ pub record Placed (W : Type 0) : Type 0 where
 abbrev pub placed : {W : Type 0} → ℕ → W → Placed W
 placed door wire = record { wire = wire; door = door }
 
+-- what a wire tells, with the door at which it came
+abbrev pub told_at : Option ℕ → PollTold → PollTold
+told_at door told = record told { wire = record (told.wire) { door = door } }
+
 -- What doors tell: a number that rises where a door fails to open or one comes back that had failed, and stands else;
 -- what is counted of what was opened and of what came back; and, where they are told, the tries to open a door in order,
 -- the wires that came back in order, closed, and what each door told that came back, in order.
@@ -29,7 +33,7 @@ pub record DoorsTold : Type 0 where
   pub faults : ℕ
   pub tally : Tally
   pub tries : Option (List TryTold)
-  pub returned : Option (List WireTold)
+  pub returned : Option (List PollTold)
   pub returned_doors : Option (List DoorTold)
 
 -- before anything was opened

@@ -2,20 +2,21 @@
 ghost use Rattle.std.specs.Prelude.{◌≡◌, ◌≤◌, ◌==◌, [], ◌∷◌, Some, true, false, not, IfSome};
 ghost use Rattle.outside_traits.specs.Causes.{Rose};
 ghost use Rattle.outside_doors.specs.Counts.{added, added_if, with_door, with_opened, with_wire};
-ghost use Rattle.outside_traits.specs.Told.{Lists, shut};
-ghost use Rattle.outside_doors.specs.Returns.{none_told, try_told};
+ghost use Rattle.outside_traits.specs.Told.{Lists};
+ghost use Rattle.outside_polling.specs.Polls.{shut_so};
+ghost use Rattle.outside_doors.specs.Returns.{none_told, told_at, try_told};
 
 use crate::counted_wire::CountedWire;
 use crate::counts::{Counts, DoorCounts};
 use crate::returns::{Return, ReturnedDoors, Returns, Tries, Try};
-use outside_traits::Wire;
+use outside_polling::PollWire;
 use std::alloc::{AllocError, Global};
 use std::marker::Model;
 
 /// What doors tell: their counts, how often a call has failed, the tries to open a door, and the wires and doors that
 /// came back.
 #[derive(Drop)]
-pub struct Book<W: Wire + Drop> {
+pub struct Book<W: PollWire + Drop> {
     counts: Counts,
     faults: u64,
     tries: Tries,
@@ -23,7 +24,7 @@ pub struct Book<W: Wire + Drop> {
     doors: ReturnedDoors,
 }
 
-impl<W: Wire + Drop> Model for Book<W> {
+impl<W: PollWire + Drop> Model for Book<W> {
     ghost use Rattle.outside_doors.specs.Returns.{DoorsTold};
 
     ghost Value = { DoorsTold };
@@ -37,7 +38,7 @@ impl<W: Wire + Drop> Model for Book<W> {
     } };
 }
 
-impl<W: Wire + Drop> Book<W> {
+impl<W: PollWire + Drop> Book<W> {
     /// The book before anything was opened.
     pub fn new(alloc: Global) -> Book<W>
         ensures { result ≡ none_told }
@@ -86,16 +87,19 @@ impl<W: Wire + Drop> Book<W> {
 
     /// A wire came back.
     pub fn wire_back(&mut self, wire: CountedWire<W>)
-        ensures tally { self.new.tally ≡ with_wire (record (W.told wire.wire) { door = Some wire.door })
-            self.old.tally }
+        ensures tally { self.new.tally ≡ with_wire (told_at (Some wire.door) (W.told wire.wire)) self.old.tally }
         ensures faults { self.new.faults ≡ self.old.faults }
         ensures tries { self.new.tries ≡ self.old.tries }
         ensures returned { Lists self.old.returned self.new.returned
-            (shut (record (W.told wire.wire) { door = Some wire.door }) ∷ []) }
+            (shut_so (told_at (Some wire.door) (W.told wire.wire)) ∷ []) }
         ensures returned_doors { self.new.returned_doors ≡ self.old.returned_doors }
     {
-        self.counts
-            .add_wire(wire.is_lost(), wire.is_cut(), wire.has_ended());
+        self.counts.add_wire(
+            wire.is_lost(),
+            wire.is_cut(),
+            wire.has_ended(),
+            wire.waits(),
+        );
         self.returns.keep(wire);
     }
 

@@ -239,7 +239,7 @@ impl Counts {
         self.wires_ended
     }
 
-    /// The waits of the doors that came back.
+    /// The waits of the doors and wires that came back.
     pub fn waits(&self) -> u64
         ensures { result ≡ self.now.waits }
     {
@@ -265,11 +265,13 @@ impl Counts {
         self.waits = self.waits.saturating_add(door.waits);
     }
 
-    /// Counts a wire that came back: whether a read of it had failed, whether a write had, and whether it had ended.
-    pub fn add_wire(&mut self, is_lost: bool, is_cut: bool, has_ended: bool)
-        ensures { self.new ≡ with_return is_lost is_cut has_ended self.old }
+    /// Counts a wire that came back: whether a read of it had failed, whether a write had, whether it had ended, and how
+    /// often it had waited.
+    pub fn add_wire(&mut self, is_lost: bool, is_cut: bool, has_ended: bool, waits: u64)
+        ensures { self.new ≡ with_return is_lost is_cut has_ended waits self.old }
     {
         self.wires_back = self.wires_back.saturating_add(1);
+        self.waits = self.waits.saturating_add(waits);
         if is_lost {
             self.wires_lost = self.wires_lost.saturating_add(1);
         }

@@ -1,11 +1,12 @@
 //! What is kept of the tries to open a door and of the wires and doors that came back.
 ghost use Rattle.std.specs.Prelude.{◌≡◌, [], ◌∷◌, Some, true, IfOk, IfSome};
-ghost use Rattle.outside_traits.specs.Told.{Lists, shut};
-ghost use Rattle.outside_doors.specs.Returns.{try_told};
+ghost use Rattle.outside_traits.specs.Told.{Lists};
+ghost use Rattle.outside_polling.specs.Polls.{shut_so};
+ghost use Rattle.outside_doors.specs.Returns.{told_at, try_told};
 
 use crate::counted_wire::CountedWire;
 use crate::counts::DoorCounts;
-use outside_traits::Wire;
+use outside_polling::PollWire;
 use std::alloc::{AllocError, Global};
 use std::marker::Model;
 
@@ -105,25 +106,26 @@ impl Tries {
 
 /// A wire that came back, closed.
 #[derive(Drop)]
-pub struct Return<W: Wire + Drop> {
+pub struct Return<W: PollWire + Drop> {
     wire: CountedWire<W>,
 }
 
-impl<W: Wire + Drop> Model for Return<W> {
+impl<W: PollWire + Drop> Model for Return<W> {
     ghost use Rattle.std.specs.Prelude.{◌≡◌, Some, true};
-    ghost use Rattle.outside_traits.specs.Told.{WireTold};
+    ghost use Rattle.outside_polling.specs.Polls.{PollTold};
+    ghost use Rattle.outside_doors.specs.Returns.{told_at};
 
-    ghost Value = { WireTold };
+    ghost Value = { PollTold };
 
-    ghost view = { λ r. record (W.told r.wire.wire) { door = Some r.wire.door } };
+    ghost view = { λ r. told_at (Some r.wire.door) (W.told r.wire.wire) };
 
-    ghost invariant = { λ r. (W.told r.wire.wire).closed ≡ true };
+    ghost invariant = { λ r. (W.told r.wire.wire).wire.closed ≡ true };
 }
 
-impl<W: Wire + Drop> Return<W> {
+impl<W: PollWire + Drop> Return<W> {
     /// Closes a wire that comes back.
     fn new(wire: CountedWire<W>) -> Return<W>
-        ensures { result ≡ shut (record (W.told wire.wire) { door = Some wire.door }) }
+        ensures { result ≡ shut_so (told_at (Some wire.door) (W.told wire.wire)) }
     {
         let mut wire = wire;
         wire.close();
@@ -132,36 +134,43 @@ impl<W: Wire + Drop> Return<W> {
 
     /// The wire itself, which is closed.
     pub fn wire(&self) -> &W
-        ensures told { record (W.told result.now) { door = self.now.door } ≡ self.now }
-        ensures closed { self.now.closed ≡ true }
+        ensures told { told_at self.now.wire.door (W.told result.now) ≡ self.now }
+        ensures closed { self.now.wire.closed ≡ true }
     {
         self.wire.wire()
     }
 
     /// At which door it came: how many doors had been opened before that.
     pub fn door(&self) -> u64
-        ensures { Some result ≡ self.now.door }
+        ensures { Some result ≡ self.now.wire.door }
     {
         self.wire.door()
     }
 
+    /// How often it had answered that it can move nothing yet.
+    pub fn waits(&self) -> u64
+        ensures { result ≡ self.now.waits }
+    {
+        self.wire.waits()
+    }
+
     /// Whether a read had failed.
     pub fn is_lost(&self) -> bool
-        ensures { result ≡ self.now.read_failed }
+        ensures { result ≡ self.now.wire.read_failed }
     {
         self.wire.is_lost()
     }
 
     /// Whether a write had failed before the wire was closed.
     pub fn is_cut(&self) -> bool
-        ensures { result ≡ self.now.write_failed }
+        ensures { result ≡ self.now.wire.write_failed }
     {
         self.wire.is_cut()
     }
 
     /// Whether a read had told the end of what comes in.
     pub fn has_ended(&self) -> bool
-        ensures { result ≡ self.now.ended }
+        ensures { result ≡ self.now.wire.ended }
     {
         self.wire.has_ended()
     }
@@ -169,21 +178,21 @@ impl<W: Wire + Drop> Return<W> {
 
 /// The wires that came back in order, which are kept for as long as there is room for them.
 #[derive(Drop)]
-pub(crate) struct Returns<W: Wire + Drop> {
+pub(crate) struct Returns<W: PollWire + Drop> {
     kept: Vec<Return<W>>,
     is_whole: bool,
 }
 
-impl<W: Wire + Drop> Model for Returns<W> {
+impl<W: PollWire + Drop> Model for Returns<W> {
     ghost use Rattle.std.specs.Prelude.{Option, None, Some, List, if◌then◌else◌};
-    ghost use Rattle.outside_traits.specs.Told.{WireTold};
+    ghost use Rattle.outside_polling.specs.Polls.{PollTold};
 
-    ghost Value = { Option (List WireTold) };
+    ghost Value = { Option (List PollTold) };
 
     ghost view = { λ r. if r.is_whole then Some r.kept.items else None };
 }
 
-impl<W: Wire + Drop> Returns<W> {
+impl<W: PollWire + Drop> Returns<W> {
     pub(crate) fn new(alloc: Global) -> Returns<W>
         ensures { result ≡ Some [] }
     {
@@ -202,7 +211,7 @@ impl<W: Wire + Drop> Returns<W> {
 
     /// Keeps one more wire.
     pub(crate) fn keep(&mut self, wire: CountedWire<W>)
-        ensures { Lists self.old self.new (shut (record (W.told wire.wire) { door = Some wire.door }) ∷ []) }
+        ensures { Lists self.old self.new (shut_so (told_at (Some wire.door) (W.told wire.wire)) ∷ []) }
     {
         if self.kept.push(Return::new(wire)).is_err() {
             self.is_whole = false;

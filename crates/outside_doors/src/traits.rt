@@ -2,10 +2,12 @@ ghost use Rattle.std.specs.Prelude.{◌≡◌, ◌<◌, [], ◌∷◌, Ok, IsTru
 ghost use Rattle.outside_traits.specs.Causes.{HasCause, Rose};
 ghost use Rattle.outside_doors.specs.Counts.{DoorTold, rested, untried, with_door, with_opened, with_wire};
 ghost use Rattle.outside_doors.specs.Attempts.{ComesAt, IfCame, closed_after, waits_after, wires_after};
-ghost use Rattle.outside_traits.specs.Told.{Lists, shut};
+ghost use Rattle.outside_traits.specs.Told.{Lists};
+ghost use Rattle.outside_polling.specs.Polls.{shut_so};
 ghost use Rattle.outside_doors.specs.Returns.{DoorsTold, try_told};
 
-use outside_traits::{Failed, Wire};
+use outside_polling::PollWire;
+use outside_traits::Failed;
 
 /// What a try at a door finds: a connection, nobody yet, or that nobody comes any more.
 #[derive(Drop)]
@@ -17,7 +19,7 @@ pub enum Accept<W> {
 
 /// A door on which connections come in.
 pub trait Door {
-    type W: Wire + Drop;
+    type W: PollWire + Drop;
 
     /// What it tells of itself. Its faults rise with each try that fails, and stand else.
     ghost told: { Self → DoorTold };
@@ -60,7 +62,7 @@ pub trait Doors {
     /// Takes a wire that its user is through with, and closes it.
     fn wire_back(&mut self, wire: <Self::D as Door>::W)
         ensures tally { (told self.new).tally ≡ with_wire (Self.D.W.told wire) (told self.old).tally }
-        ensures listed { Lists (told self.old).returned (told self.new).returned (shut (Self.D.W.told wire) ∷ []) }
+        ensures listed { Lists (told self.old).returned (told self.new).returned (shut_so (Self.D.W.told wire) ∷ []) }
         ensures returned_doors { (told self.new).returned_doors ≡ (told self.old).returned_doors }
         ensures tries { (told self.new).tries ≡ (told self.old).tries }
         ensures faults { (told self.new).faults ≡ (told self.old).faults };

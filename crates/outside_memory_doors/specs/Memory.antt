@@ -1,8 +1,10 @@
 -- What a contract sees of the doors in memory.
 use Rattle.std.specs.Prelude.{◌≡◌, ◌==◌, ◌-◌, ℕ, false, if◌then◌else◌}
 use Rattle.std.specs.Prelude.{List, [], ◌∷◌, Option, Some, None, Result, Ok, IsErr}
+use Rattle.outside_polling.specs.Early.{Hasty}
+use Rattle.outside_polling.specs.Polls.{PollTold}
 use Rattle.outside_doors.specs.Counts.{DoorTold, untried}
-use Rattle.outside_doors.specs.Returns.{DoorsTold, Placed, placed}
+use Rattle.outside_doors.specs.Returns.{DoorsTold, Placed, placed, told_at}
 use Rattle.outside_doors.specs.declared.traits.Accept.{Accept}
 use Rattle.outside_doors.specs.declared.traits.Accept.TheVariants.{Came, NotYet, Closed}
 use Rattle.outside_memory_doors.specs.declared.visit.Visit.{Visit}
@@ -13,7 +15,7 @@ use Rattle.outside_traits.specs.Told.{WireTold}
 
 -- a door that never fails: the wires that are to come, for how many tries then nobody comes, and what it tells
 pub record UnfailingEntry : Type 0 where
-  pub coming : List UnfailingLine
+  pub coming : List (Hasty UnfailingLine)
   pub quiet : ℕ
   pub told : DoorTold
 
@@ -32,7 +34,7 @@ pub record ScriptedHouse : Type 0 where
   pub coming : List (Option ScriptedEntry)
   pub book : DoorsTold
 
--- a unfailed wire that was not used yet, on which these bytes come in, and for so many that go out there is room
+-- an unfailed wire that was not used yet, on which these bytes come in, and for so many that go out there is room
 abbrev pub unfailed_line : List ℕ → ℕ → UnfailingLine
 unfailed_line bytes room = record {
   tape = record { given = []; left = bytes };
@@ -57,58 +59,70 @@ scripted_line failing piece bytes room = record {
   ended = false;
 }
 
--- what a unfailed wire tells that came at a door
-abbrev pub told_by_unfailed : Placed UnfailingLine → WireTold
-told_by_unfailed came = record {
-  read = Some came.wire.tape.given;
-  unread = Some (readable came.wire.closed came.wire.tape);
-  written = Some came.wire.shelf.taken;
-  calls = came.wire.calls;
+-- what an unfailed wire tells
+abbrev pub told_by_unfailed : UnfailingLine → WireTold
+told_by_unfailed line = record {
+  read = Some line.tape.given;
+  unread = Some (readable line.closed line.tape);
+  written = Some line.shelf.taken;
+  calls = line.calls;
   read_failed = false;
-  write_failed = came.wire.cut;
-  ended = came.wire.ended;
-  closed = came.wire.closed;
-  door = Some came.door;
+  write_failed = line.cut;
+  ended = line.ended;
+  closed = line.closed;
+  door = None;
 }
 
 -- the same of a scripted one
-abbrev pub told_by_scripted : Placed ScriptedLine → WireTold
-told_by_scripted came = record {
-  read = Some came.wire.tape.given;
-  unread = Some (readable came.wire.closed came.wire.tape);
-  written = Some came.wire.shelf.taken;
-  calls = came.wire.calls;
-  read_failed = came.wire.lost;
-  write_failed = came.wire.cut;
-  ended = came.wire.ended;
-  closed = came.wire.closed;
-  door = Some came.door;
+abbrev pub told_by_scripted : ScriptedLine → WireTold
+told_by_scripted line = record {
+  read = Some line.tape.given;
+  unread = Some (readable line.closed line.tape);
+  written = Some line.shelf.taken;
+  calls = line.calls;
+  read_failed = line.lost;
+  write_failed = line.cut;
+  ended = line.ended;
+  closed = line.closed;
+  door = None;
 }
 
--- what a unfailed door answers: its wires in order, then for so many tries that nobody has come yet, then that nobody comes
--- any more
-abbrev pub UnfailinglyAnswersBy : {E : Type 0} → ℕ → List UnfailingLine → ℕ → Result (Accept (Placed UnfailingLine)) E → Type 0
+-- what a wire tells of which some calls come too early: what the wire in it tells, and how many of these there were
+abbrev pub polled : {W : Type 0} → (W → WireTold) → Hasty W → PollTold
+polled told line = record { wire = told line.wire; waits = line.waits }
+
+-- the same of one that came at a door, which it tells
+abbrev pub told_of : {W : Type 0} → (W → WireTold) → Placed (Hasty W) → PollTold
+told_of told came = told_at (Some came.door) (polled told came.wire)
+
+-- what comes of a try at a door in memory, of whose wires some calls come too early
+abbrev pub Tried : Type 0 → Type 0 → Type 0
+Tried W E = Result (Accept (Placed (Hasty W))) E
+
+-- what an unfailed door answers: its wires in order, then for so many tries that nobody has come yet, then that nobody
+-- comes any more
+abbrev pub UnfailinglyAnswersBy : {E : Type 0} → ℕ → List (Hasty UnfailingLine) → ℕ → Tried UnfailingLine E → Type 0
 UnfailinglyAnswersBy place (wire ∷ rest) quiet result = result ≡ Ok (Came (placed place wire))
 UnfailinglyAnswersBy place [] quiet result = result ≡ Ok (if quiet == 0 then Closed else NotYet)
 
 -- the same by what is seen of the door
-abbrev pub UnfailinglyAnswers : {E : Type 0} → UnfailingEntry → Result (Accept (Placed UnfailingLine)) E → Type 0
+abbrev pub UnfailinglyAnswers : {E : Type 0} → UnfailingEntry → Tried UnfailingLine E → Type 0
 UnfailinglyAnswers door result = UnfailinglyAnswersBy door.told.place door.coming door.quiet result
 
--- for how many tries nobody comes behind a try at a unfailed door: one fewer, where no wire was left
-abbrev pub quiet_after : List UnfailingLine → ℕ → ℕ
+-- for how many tries nobody comes behind a try at an unfailed door: one fewer, where no wire was left
+abbrev pub quiet_after : List (Hasty UnfailingLine) → ℕ → ℕ
 quiet_after [] quiet = quiet - 1
 quiet_after (wire ∷ rest) quiet = quiet
 
 -- what a scripted door answers: what its next visit is, and behind the last of them that nobody comes any more
-abbrev pub AnswersBy : {E : Type 0} → ℕ → List Visit → Result (Accept (Placed ScriptedLine)) E → Type 0
+abbrev pub AnswersBy : {E : Type 0} → ℕ → List Visit → Tried ScriptedLine E → Type 0
 AnswersBy place [] result = result ≡ Ok Closed
 AnswersBy place (Comes wire ∷ rest) result = result ≡ Ok (Came (placed place wire))
 AnswersBy place (Nobody ∷ rest) result = result ≡ Ok NotYet
 AnswersBy place (Fails ∷ rest) result = IsErr result
 
 -- the same by what is seen of the door
-abbrev pub Answers : {E : Type 0} → ScriptedEntry → Result (Accept (Placed ScriptedLine)) E → Type 0
+abbrev pub Answers : {E : Type 0} → ScriptedEntry → Tried ScriptedLine E → Type 0
 Answers door result = AnswersBy door.told.place door.visits result
 
 -- the unfailed door of this place that is opened next: the first that is to be, and behind the last of them one at which

@@ -1,15 +1,17 @@
-ghost use Rattle.std.specs.Prelude.{◌≡◌, ◌<◌, ◌++◌, [], ◌∷◌, Ok, Some, false, IsTrue, OnErr, OnOk, IfOk, drop};
+ghost use Rattle.std.specs.Prelude.{◌≡◌, ◌<◌, ◌++◌, [], ◌∷◌, Ok, Some, false, IsTrue, OnErr, OnOk, drop};
 ghost use Rattle.outside_traits.specs.Causes.{HasCause};
 ghost use Rattle.outside_doors.specs.Counts.{rested, untried};
 ghost use Rattle.outside_doors.specs.Attempts.{ComesAt, IfCame, closed_after, waits_after, wires_after};
-ghost use Rattle.outside_memory_doors.specs.Memory.{Answers, scripted_line, told_by_scripted};
+ghost use Rattle.outside_polling.specs.Early.{hasty};
+ghost use Rattle.outside_memory_doors.specs.Memory.{Answers, scripted_line, told_by_scripted, told_of};
 ghost use Rattle.outside_memory_doors.specs.declared.visit.Visit.TheVariants.{Comes, Fails, Nobody};
 
 use crate::new_wire::NewWire;
+use crate::poll_wires::ScriptedPollWire;
 use crate::queue::Queue;
 use crate::visit::Visit;
 use outside_doors::{Accept, CountedWire, Door, DoorCounts};
-use outside_traits::{Failed, Script, ScriptedWire};
+use outside_traits::Failed;
 use std::alloc::{AllocError, Global};
 use std::marker::Model;
 
@@ -42,23 +44,25 @@ impl ScriptedDoor {
         }
     }
 
-    /// Has a connection come next, on which these bytes come in, `room` bytes go out in all, at most `piece` a call
-    /// either way, and the calls of these numbers fail.
+    /// Has a connection come next, on which these bytes come in, and `room` bytes go out in all, at most `piece` a call
+    /// either way. Of its calls, from 0, those of the numbers in `early` come too early; of all others, from 0 again,
+    /// those of the numbers in `failing` fail.
     pub fn expect(
         &mut self,
         bytes: &[u8],
         room: usize,
         piece: usize,
         failing: &[u64],
+        early: &[u64],
     ) -> Result<(), AllocError>
         requires { 0 < piece }
         ensures more { OnOk result (self.new.visits ≡ self.old.visits
-            ++ Comes (scripted_line failing.now piece bytes.now room) ∷ []) }
+            ++ Comes (hasty (scripted_line failing.now piece bytes.now room) early.now) ∷ []) }
         ensures same { OnErr result (self.new.visits ≡ self.old.visits) }
         ensures told { self.new.told ≡ self.old.told }
     {
-        let wire = new_wire(self.alloc, bytes, room, piece, failing)?;
-        self.visits.push(Visit::Comes(wire))?;
+        let wire = ScriptedPollWire::new(self.alloc, bytes, room, piece, failing, early)?;
+        self.visits.push(Visit::Comes(NewWire::new(wire)))?;
         Ok(())
     }
 
@@ -105,14 +109,14 @@ impl ScriptedDoor {
 }
 
 impl Door for ScriptedDoor {
-    type W = CountedWire<ScriptedWire>;
+    type W = CountedWire<ScriptedPollWire>;
 
     ghost told = { λ d. d.told };
 
-    fn try_accept(&mut self) -> Result<Accept<CountedWire<ScriptedWire>>, Failed>
+    fn try_accept(&mut self) -> Result<Accept<CountedWire<ScriptedPollWire>>, Failed>
         ensures scripted { self.old.told.closed ≡ false → Answers self.old result }
         ensures visits { self.old.told.closed ≡ false → self.new.visits ≡ drop 1 self.old.visits }
-        ensures comes { IfCame result (λ wire. ComesAt self.old.told.place (told_by_scripted wire)) }
+        ensures comes { IfCame result (λ wire. ComesAt self.old.told.place (told_of told_by_scripted wire)) }
         ensures place { self.new.told.place ≡ self.old.told.place }
         ensures wires { self.new.told.wires ≡ wires_after result self.old.told.wires }
         ensures waits { self.new.told.waits ≡ waits_after result self.old.told.waits }
@@ -149,20 +153,4 @@ impl Door for ScriptedDoor {
     {
         self.counts.add_rest();
     }
-}
-
-/// A wire that was not used yet.
-fn new_wire(
-    alloc: Global,
-    bytes: &[u8],
-    room: usize,
-    piece: usize,
-    failing: &[u64],
-) -> Result<NewWire<ScriptedWire>, AllocError>
-    requires { 0 < piece }
-    ensures { IfOk result (λ wire. wire ≡ scripted_line failing.now piece bytes.now room) }
-{
-    let script = Script::new(alloc, failing)?;
-    let wire = ScriptedWire::new(alloc, bytes, room, piece, script)?;
-    Ok(NewWire::new(wire))
 }

@@ -5,10 +5,11 @@ ghost use Rattle.outside_memory_doors.specs.Memory.{Opens};
 ghost use Rattle.outside_traits.specs.Told.{Lists};
 ghost use Rattle.outside_doors.specs.Returns.{none_told, try_told};
 
+use crate::poll_wires::ScriptedPollWire;
 use crate::queue::Queue;
 use crate::scripted_door::ScriptedDoor;
 use outside_doors::{Book, CountedWire, Counts, DoorCounts, Doors, Return, Try};
-use outside_traits::{Failed, ScriptedWire};
+use outside_traits::Failed;
 use std::alloc::{AllocError, Global};
 use std::marker::Model;
 
@@ -18,7 +19,7 @@ use std::marker::Model;
 pub struct ScriptedDoors {
     alloc: Global,
     coming: Queue<Option<ScriptedDoor>>,
-    book: Book<ScriptedWire>,
+    book: Book<ScriptedPollWire>,
 }
 
 impl Model for ScriptedDoors {
@@ -83,7 +84,7 @@ impl ScriptedDoors {
     }
 
     /// The wires that came back in order: all, where they are told.
-    pub fn returned(&self) -> &[Return<ScriptedWire>]
+    pub fn returned(&self) -> &[Return<ScriptedPollWire>]
         ensures { IfSome self.now.book.returned (λ wires. result.now ≡ wires) }
     {
         self.book.wires()
@@ -126,7 +127,7 @@ impl Doors for ScriptedDoors {
         Ok(door.anew(place))
     }
 
-    fn wire_back(&mut self, wire: CountedWire<ScriptedWire>) {
+    fn wire_back(&mut self, wire: CountedWire<ScriptedPollWire>) {
         self.book.wire_back(wire);
     }
 

@@ -1,13 +1,15 @@
-ghost use Rattle.std.specs.Prelude.{◌≡◌, ◌++◌, [], ◌∷◌, Ok, Some, false, IsTrue, OnErr, OnOk, IsOk, IfOk, drop};
+ghost use Rattle.std.specs.Prelude.{◌≡◌, ◌++◌, [], ◌∷◌, Ok, Some, false, IsTrue, OnErr, OnOk, IsOk, drop};
 ghost use Rattle.outside_traits.specs.Causes.{HasCause};
 ghost use Rattle.outside_doors.specs.Counts.{rested, untried};
 ghost use Rattle.outside_doors.specs.Attempts.{ComesAt, IfCame, closed_after, waits_after, wires_after};
-ghost use Rattle.outside_memory_doors.specs.Memory.{UnfailinglyAnswers, unfailed_line, quiet_after, told_by_unfailed};
+ghost use Rattle.outside_polling.specs.Early.{hasty};
+ghost use Rattle.outside_memory_doors.specs.Memory.{UnfailinglyAnswers, unfailed_line, quiet_after, told_by_unfailed, told_of};
 
 use crate::new_wire::NewWire;
+use crate::poll_wires::UnfailingPollWire;
 use crate::queue::Queue;
 use outside_doors::{Accept, CountedWire, Door, DoorCounts};
-use outside_traits::{Failed, UnfailingWire};
+use outside_traits::Failed;
 use std::alloc::{AllocError, Global};
 use std::marker::Model;
 
@@ -16,7 +18,7 @@ use std::marker::Model;
 #[derive(Drop)]
 pub struct UnfailingDoor {
     alloc: Global,
-    coming: Queue<NewWire<UnfailingWire>>,
+    coming: Queue<NewWire<UnfailingPollWire>>,
     quiet: u64,
     counts: DoorCounts,
 }
@@ -42,15 +44,17 @@ impl UnfailingDoor {
         }
     }
 
-    /// Has one more connection come, on which these bytes come in, and `room` bytes go out in all.
-    pub fn expect(&mut self, bytes: &[u8], room: usize) -> Result<(), AllocError>
-        ensures more { OnOk result (self.new.coming ≡ self.old.coming ++ unfailed_line bytes.now room ∷ []) }
+    /// Has one more connection come, on which these bytes come in, and `room` bytes go out in all. Its calls of the
+    /// numbers in `early`, from 0, come too early: reads and writes are counted together.
+    pub fn expect(&mut self, bytes: &[u8], room: usize, early: &[u64]) -> Result<(), AllocError>
+        ensures more { OnOk result (self.new.coming ≡ self.old.coming
+            ++ hasty (unfailed_line bytes.now room) early.now ∷ []) }
         ensures same { OnErr result (self.new.coming ≡ self.old.coming) }
         ensures quiet { self.new.quiet ≡ self.old.quiet }
         ensures told { self.new.told ≡ self.old.told }
     {
-        let wire = new_wire(self.alloc, bytes, room)?;
-        self.coming.push(wire)?;
+        let wire = UnfailingPollWire::new(self.alloc, bytes, room, early)?;
+        self.coming.push(NewWire::new(wire))?;
         Ok(())
     }
 
@@ -77,16 +81,16 @@ impl UnfailingDoor {
 }
 
 impl Door for UnfailingDoor {
-    type W = CountedWire<UnfailingWire>;
+    type W = CountedWire<UnfailingPollWire>;
 
     ghost told = { λ d. d.told };
 
-    fn try_accept(&mut self) -> Result<Accept<CountedWire<UnfailingWire>>, Failed>
+    fn try_accept(&mut self) -> Result<Accept<CountedWire<UnfailingPollWire>>, Failed>
         ensures unfailed { IsOk result }
         ensures answer { self.old.told.closed ≡ false → UnfailinglyAnswers self.old result }
         ensures coming { self.old.told.closed ≡ false → self.new.coming ≡ drop 1 self.old.coming }
         ensures quiet { self.old.told.closed ≡ false → self.new.quiet ≡ quiet_after self.old.coming self.old.quiet }
-        ensures comes { IfCame result (λ wire. ComesAt self.old.told.place (told_by_unfailed wire)) }
+        ensures comes { IfCame result (λ wire. ComesAt self.old.told.place (told_of told_by_unfailed wire)) }
         ensures place { self.new.told.place ≡ self.old.told.place }
         ensures wires { self.new.told.wires ≡ wires_after result self.old.told.wires }
         ensures waits { self.new.told.waits ≡ waits_after result self.old.told.waits }
@@ -116,12 +120,4 @@ impl Door for UnfailingDoor {
     {
         self.counts.add_rest();
     }
-}
-
-/// A wire that was not used yet.
-fn new_wire(alloc: Global, bytes: &[u8], room: usize) -> Result<NewWire<UnfailingWire>, AllocError>
-    ensures { IfOk result (λ wire. wire ≡ unfailed_line bytes.now room) }
-{
-    let wire = UnfailingWire::new(alloc, bytes, room)?;
-    Ok(NewWire::new(wire))
 }

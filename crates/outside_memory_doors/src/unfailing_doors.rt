@@ -5,10 +5,11 @@ ghost use Rattle.outside_memory_doors.specs.Memory.{next_entry};
 ghost use Rattle.outside_traits.specs.Told.{Lists};
 ghost use Rattle.outside_doors.specs.Returns.{none_told, try_told};
 
+use crate::poll_wires::UnfailingPollWire;
 use crate::queue::Queue;
 use crate::unfailing_door::UnfailingDoor;
 use outside_doors::{Book, CountedWire, Counts, DoorCounts, Doors, Return, Try};
-use outside_traits::{Failed, UnfailingWire};
+use outside_traits::Failed;
 use std::alloc::{AllocError, Global};
 use std::marker::Model;
 
@@ -18,7 +19,7 @@ use std::marker::Model;
 pub struct UnfailingDoors {
     alloc: Global,
     coming: Queue<UnfailingDoor>,
-    book: Book<UnfailingWire>,
+    book: Book<UnfailingPollWire>,
 }
 
 impl Model for UnfailingDoors {
@@ -73,7 +74,7 @@ impl UnfailingDoors {
     }
 
     /// The wires that came back in order: all, where they are told.
-    pub fn returned(&self) -> &[Return<UnfailingWire>]
+    pub fn returned(&self) -> &[Return<UnfailingPollWire>]
         ensures { IfSome self.now.book.returned (λ wires. result.now ≡ wires) }
     {
         self.book.wires()
@@ -113,7 +114,7 @@ impl Doors for UnfailingDoors {
         Ok(door.anew(place))
     }
 
-    fn wire_back(&mut self, wire: CountedWire<UnfailingWire>) {
+    fn wire_back(&mut self, wire: CountedWire<UnfailingPollWire>) {
         self.book.wire_back(wire);
     }
 

@@ -1,10 +1,10 @@
 use crate::new_wire::NewWire;
-use outside_traits::ScriptedWire;
+use crate::poll_wires::ScriptedPollWire;
 
 /// What a try at a scripted door comes to: a connection, nobody yet, or a failure.
 #[derive(Drop)]
 pub(crate) enum Visit {
-    Comes(NewWire<ScriptedWire>),
+    Comes(NewWire<ScriptedPollWire>),
     Nobody,
     Fails,
 }

@@ -19,20 +19,19 @@ use Rattle.run_theorem.specs.Lines.{IsPrefix}
 use Rattle.run_theorem.specs.Texts.{Came as Incoming, call_in, posting_of}
 use Rattle.run_theorem.specs.RunConnections.{RunConnection, came_with}
 use Rattle.outside_traits.specs.Told.{WireTold}
-use Rattle.run_door_front.specs.Keeping.{is_led, leads_of, lead_of, Lead, ListenerTold, ClientTold, Keeping, services_of, rests_at, no_more, AreLed}
+use Rattle.run_door_front.specs.Keeping.{is_led, leads_of, lead_of, Lead, ListenerTold, ClientTold, Keeping, services_of, rests_at, is_open, owes, closed_off, AreLed}
 use Rattle.outside_traits.specs.Told.{SinkTold}
-use Rattle.run_door_front.specs.Exchanged.{most_open, Sides, sides_of, CameInTurn, HadNone, GaveNone, HaveWaited, HasSent, HasExchanged, MayHaveExchanged}
-use Rattle.run_door_front.specs.NextSteps.{service_of, place_of, wires_of, is_open, has_room, closed_off, AreTried, LinksGoOn, listing, Hands, going_of, Goes, Rests, Posts, Looks}
+use Rattle.run_door_front.specs.Exchanged.{most_open, is_for_answer, waits_at, Sides, sides_of, HadNone, GaveNone, HasSent, HasExchanged, MayHaveExchanged}
+use Rattle.run_door_front.specs.NextSteps.{HasNotFallen, service_of, place_of, wires_of, has_room, all_owing, listing, Hands, going_of, Goes, Rests, Ends, Posts, Looks}
 use Rattle.run_door_front.proofs.Entries.{length_set, nat_eq_is}
-use Rattle.run_door_front.proofs.Doors.{services-same, places-same, leads-same}
+use Rattle.run_door_front.proofs.Doors.{services-same, places-same, leads-same, waits-on}
 use Rattle.run_door_front.proofs.Leading.{led-asked}
-use Rattle.run_door_front.proofs.Coming.{goes-none}
+use Rattle.run_door_front.proofs.Looking.{goes-none}
 use Rattle.run_door_front.proofs.Requests.{Serves, serves-on, came_length}
 use Rattle.run_door_front.proofs.OneMore.{one_more, next_of, serves-more, service_there}
-use Rattle.run_door_front.proofs.OneByOne.{told_all, one_count_more, told_first-more, heard_by-more, heard-where_reads}
-use Rattle.run_door_front.proofs.InTurn.{asked_within, over_on, in_turn-on, in_turn-asked}
+use Rattle.run_door_front.proofs.OneByOne.{told_all, one_count_more, told_first-more, heard_by-more, heard-where_asks}
 use Rattle.run_door_front.proofs.Notes.{noted_all}
-use Rattle.run_door_front.proofs.Waiting.{once_more, waited-none, waited-more, owes, opened_owe, owes-grow, busy-few, busy-all, busy-count}
+use Rattle.run_door_front.proofs.Waiting.{once_more, doors_waited, links_waits, links_waited, opened_owe, owes-grow, pause_of, pause-count, none_for_wire, paused-all, owing-all, paused-few}
 
 -- ---- calls
 
@@ -73,9 +72,9 @@ take_length : {A : Type 0} (xs : List A) → xs ≡ take (length xs) xs
 take_length xs = sym (take_all (length xs) xs (omega arith))
 
 -- where there is no room for one more connection although more may come, as many are open as may be
-many_open : (most : ℕ) (ports : List ListenerTold) (links : List ClientTold) → has_room most links ≡ false → closed_off most ports links ≡ false
-    → most_open ≤ count_by is_open links
-many_open most ports links none more = by_count (nat_lt (count_by is_open links) most_open) refl
+many_open : (most : ℕ) (doors : List ListenerTold) (links : List ClientTold) → has_room most (length links) (count_by is_open links) ≡ false
+    → closed_off most doors links ≡ false → most_open ≤ count_by is_open links
+many_open most doors links none more = by_count (nat_lt (count_by is_open links) most_open) refl
   where
     first_false : (a b : Bool) → a || b ≡ false → a ≡ false
     first_false true b e = absurd (true≢false e)
@@ -87,18 +86,20 @@ many_open most ports links none more = by_count (nat_lt (count_by is_open links)
         absurd (true≢false (sym (and_from (nat_lt (length links) most) (nat_lt (count_by is_open links) most_open) (lt-ltb (length links) most fewer) e) ∙ none))
     by_count false e = ltb-false (count_by is_open links) most_open e
 
+-- of two of which not both are so one is not, or the other is not
+not_both : (a b : Bool) → a && b ≡ false → (b ≡ false) ⊎ ((b ≡ true) × (a ≡ false))
+not_both a true e = inr (refl, only a e)
+  where
+    only : (a : Bool) → a && true ≡ false → a ≡ false
+    only true h = absurd (true≢false h)
+    only false h = refl
+not_both a false e = inl refl
+
 module _ (IsMade : WireTold → Type 0) (parts : ProgramParts) (first : Sides) (notes : SinkTold) (before now : Keeping) (d : Exchange)
     (h : HasExchanged IsMade parts first (sides_of before notes) d) (most : now.most ≡ before.most) (halted : now.halted ≡ before.halted) where
   -- what was asked and told by then
-  serves : Serves IsMade parts (leads_of before) before.links h.all h.heard
-  serves = record { connections = h.connections; are = h.links; doors = h.doors; taken = h.taken; came = h.came; answers = h.answers }
-
-  -- connections go on without a request
-  in_turn-goes : (links : List ClientTold) → LinksGoOn IsMade (leads_of before) before.links links → CameInTurn d links
-  in_turn-goes links g =
-      in_turn-on d.received.asked d.received.seens d.sent.told before.links links
-      (λ j a x. asked_within IsMade before.links h.connections h.links h.all.asked h.all.came h.came j a (ap (λ xs. slice_get xs j) h.asked ∙ x))
-      (over_on IsMade (leads_of before) before.links links g) h.in_turn
+  serves : Serves IsMade parts (leads_of before) before.connections h.all h.heard
+  serves = record { connections = h.connections; are = h.clients; doors = h.at_doors; taken = h.taken; came = h.came; answers = h.answers }
 
   -- as many were given as were asked
   given_count : length d.received.given ≡ length before.traffics
@@ -142,28 +143,28 @@ module _ (IsMade : WireTold → Type 0) (parts : ProgramParts) (first : Sides) (
 
   module _ (g : Goes IsMade before.most (going_of before) (going_of now)) where
     abbrev same_services : services_of now ≡ services_of before
-    same_services = services-same before.ports now.ports g.ports
+    same_services = services-same before.doors now.doors g.doors
 
     abbrev same_leads : leads_of now ≡ leads_of before
-    same_leads = leads-same before.ports now.ports g.ports
+    same_leads = leads-same before.doors now.doors g.doors
 
-    still_serves : Serves IsMade parts (leads_of before) now.links h.all h.heard
-    still_serves = serves-on IsMade (leads_of before) parts before.links now.links h.all h.heard g.links serves
+    still_serves : Serves IsMade parts (leads_of before) now.connections h.all h.heard
+    still_serves = serves-on IsMade (leads_of before) parts before.connections now.connections h.all h.heard g.connections serves
 
     none-so : d.sent.halted ≡ false → (waits : ℕ) (ended : Bool)
         → (d.sent.halted ≡ false → HadNone now (record { received = without waits ended; sent = d.sent }) ⊎ (most_postings ≤ length d.received.given))
         → HasExchanged IsMade parts first (sides_of now notes) (record { received = without waits ended; sent = d.sent })
     none-so running waits ended none = record {
       services = same_services ∙ h.services;
-      in_place = places-same before.ports now.ports g.ports ∙ h.in_place;
+      in_place = places-same before.doors now.doors g.doors ∙ h.in_place;
       most = most ∙ h.most;
       within = ap (list_all (λ n. nat_lt n (length parts.services))) same_services ∙ h.within;
       connections = still_serves.connections;
-      links = still_serves.are;
+      clients = still_serves.are;
       came_in = g.wires h.came_in;
       led = g.led h.came_in h.led;
-      doors = subst (λ ls. list_all (λ (v : RunConnection). list_any (is_led v.door v.service) ls) still_serves.connections ≡ true) (sym same_leads) still_serves.doors;
-      accepted = subst (λ n. length now.links ≤ n) (sym most) (g.within h.accepted);
+      at_doors = subst (λ ls. list_all (λ (v : RunConnection). list_any (is_led v.door v.service) ls) still_serves.connections ≡ true) (sym same_leads) still_serves.doors;
+      accepted = subst (λ n. length now.connections ≤ n) (sym most) (g.within h.accepted);
       all = h.all;
       asked = h.asked;
       traffics = h.traffics ∙ sym g.traffics;
@@ -177,7 +178,6 @@ module _ (IsMade : WireTold → Type 0) (parts : ProgramParts) (first : Sides) (
       places = h.places;
       answers = still_serves.answers;
       one_by_one = record { counts = h.one_by_one.counts; each = h.one_by_one.each };
-      in_turn = in_turn-goes now.links g.links;
       sent = sent_still;
       noted_by_then = all_taken running;
       left = refl;
@@ -204,159 +204,167 @@ module _ (IsMade : WireTold → Type 0) (parts : ProgramParts) (first : Sides) (
         record { came = ends; silent = refl; seen = refl; noted = refl },
       )
 
-  module _ (r : Rests IsMade before.most (going_of before) (going_of now)) where
-    at_rest : Serves IsMade parts (leads_of before) now.links h.all h.heard
+  -- nothing comes any more
+  over-so : d.sent.halted ≡ false → Ends IsMade before.most (going_of before) (going_of now)
+      → After (HasExchanged IsMade parts first (sides_of now notes)) (Asks parts nexts.End d)
+  over-so running e = (
+    record { received = without 0 true; sent = d.sent },
+    none-so e.goes running 0 true (λ unfailed. inl (record {
+      pauses = map pause_of now.connections;
+      each = owing-all IsMade parts (leads_of before) now.connections h.all h.heard (record { received = without 0 true; sent = d.sent }) (still_serves e.goes) h.asked
+          (h.all_told unfailed ∙ take_length d.sent.told) e.owing;
+      over = λ ended. (ap (λ n. closed_off n now.doors now.connections) most ∙ e.over, none_for_wire now.connections e.owing);
+      waited = λ ended. absurd (true≢false ended);
+      rested = λ ended. absurd (true≢false ended);
+    })),
+    record { came = ends; silent = refl; seen = refl; noted = refl },
+  )
+
+  -- nothing comes for now
+  module _ (r : Rests IsMade before.most (going_of before) (going_of now)) (yet : d.received.ended ≡ false) (quiet : IsQuiet d)
+      (more : added (rests_at before.doors) 1 ≤ rests_at now.doors) where
+    at_rest : Serves IsMade parts (leads_of before) now.connections h.all h.heard
     at_rest = still_serves r.goes
 
-    -- all that was told was heard
-    told_then : (waits : ℕ) (ended : Bool) → d.sent.halted ≡ false → h.heard ≡ take (without waits ended).seen d.sent.told
-    told_then waits ended unfailed = h.all_told unfailed ∙ take_length d.sent.told
+    abbrev waits_now : Exchange
+    waits_now = record { received = without (suc d.received.waits) false; sent = d.sent }
 
-    over_same : no_more now ≡ closed_off before.most now.ports now.links
-    over_same = ap (λ n. closed_off n now.ports now.links) most
+    abbrev waits_before : ℕ
+    waits_before = waits_at before.doors before.connections
 
-    -- no connection can come any more
-    over-so : d.sent.halted ≡ false → closed_off before.most now.ports now.links ≡ true
-        → After (HasExchanged IsMade parts first (sides_of now notes)) (Asks parts nexts.End d)
-    over-so running over = (
-      record { received = without 0 true; sent = d.sent },
-      none-so r.goes running 0 true (λ unfailed. inl (record {
-        busy = map owes now.links;
-        each = busy-all IsMade parts (leads_of before) now.links h.all h.heard (record { received = without 0 true; sent = d.sent }) at_rest h.asked
-            (told_then 0 true unfailed) r.silent;
-        over = λ e. over_same ∙ over;
-        some = λ e. absurd (true≢false e);
-        waited = λ e. absurd (true≢false e);
-        rested = λ e. absurd (true≢false e);
-      })),
-      record { came = ends; silent = refl; seen = refl; noted = refl },
+    abbrev waits_then : ℕ
+    waits_then = waits_at now.doors now.connections
+
+    -- with any last value of their type
+    first_more : (a b c e cap : ℕ) → min (a + 1) cap ≤ c → min b cap ≤ e → min (a + b + 1) cap ≤ c + e
+    first_more a b c e cap x y = omega arith
+
+    second_more : (a b c e cap : ℕ) → min a cap ≤ c → min (b + 1) cap ≤ e → min (a + b + 1) cap ≤ c + e
+    second_more a b c e cap x y = omega arith
+
+    -- as many owe an answer as may be open, or doors and wires waited once more
+    waited_more : (most_open ≤ count_by owes now.connections) ⊎ (added waits_before 1 ≤ waits_then)
+    waited_more = elim (not_both (closed_off before.most now.doors now.connections) (all_owing now.connections) r.some) [
+      | inl unowed ↦ inr (second_more (sum_by (λ (p : ListenerTold). p.door.waits) before.doors) (sum_by (λ (l : ClientTold). l.waits) before.connections)
+          (sum_by (λ (p : ListenerTold). p.door.waits) now.doors) (sum_by (λ (l : ClientTold). l.waits) now.connections) (2 ^ 64 - 1)
+          (waits-on before.doors now.doors r.goes.doors)
+          (links_waited IsMade (leads_of before) before.connections now.connections r.goes.connections r.paused unowed))
+      | inr owing ↦ elim r.tried [
+        | inl none ↦ inl (
+            let all = many_open before.most now.doors now.connections none owing.1 in
+            let few = opened_owe now.connections owing.0 in
+            omega (arith, all, few))
+        | inr tried ↦ inr (first_more (sum_by (λ (p : ListenerTold). p.door.waits) before.doors) (sum_by (λ (l : ClientTold). l.waits) before.connections)
+            (sum_by (λ (p : ListenerTold). p.door.waits) now.doors) (sum_by (λ (l : ClientTold). l.waits) now.connections) (2 ^ 64 - 1)
+            (doors_waited before.doors now.doors r.goes.doors tried (second_false (nat_le before.most (length now.connections)) _ owing.1))
+            (links_waits IsMade (leads_of before) before.connections now.connections r.goes.connections))
+      ]
+    ]
+      where
+        second_false : (a b : Bool) → a || b ≡ false → b ≡ false
+        second_false true b e = absurd (true≢false e)
+        second_false false b e = e
+
+    -- doors and wires waited at least as often as before
+    not_fewer : HasNotFallen waits_before waits_then
+    not_fewer = both (sum_by (λ (p : ListenerTold). p.door.waits) before.doors) (sum_by (λ (l : ClientTold). l.waits) before.connections)
+        (sum_by (λ (p : ListenerTold). p.door.waits) now.doors) (sum_by (λ (l : ClientTold). l.waits) now.connections) (2 ^ 64 - 1)
+        (waits-on before.doors now.doors r.goes.doors) (links_waits IsMade (leads_of before) before.connections now.connections r.goes.connections)
+      where
+        both : (a b c e cap : ℕ) → min a cap ≤ c → min b cap ≤ e → min (a + b) cap ≤ c + e
+        both a b c e cap x y = omega arith
+
+    none : (w cap n : ℕ) → w ≡ 0 → min w cap ≤ n
+    none w cap n e = omega arith
+
+    positive : (n w : ℕ) → w ≡ suc n → 0 < w
+    positive n w e = omega arith
+
+    abbrev IsSo : Type 0
+    IsSo = ((most_open ≤ count_by owes now.connections) ⊎ (min (suc d.received.waits) (2 ^ 64 - 1) ≤ waits_then)) × (min (suc d.received.waits) (2 ^ 64 - 1) ≤ rests_at now.doors)
+
+    -- once more since it was so before
+    once : (min d.received.waits (2 ^ 64 - 1) ≤ waits_before) → (min d.received.waits (2 ^ 64 - 1) ≤ rests_at before.doors) → IsSo
+    once few rest = (
+      elim waited_more [
+        | inl many ↦ inl many
+        | inr waited ↦ inr (once_more d.received.waits waits_before (2 ^ 64 - 1) waits_then few waited)
+      ],
+      once_more d.received.waits (rests_at before.doors) (2 ^ 64 - 1) (rests_at now.doors) rest more,
     )
 
-    -- more may come
-    module _ (yet : d.received.ended ≡ false) (quiet : IsQuiet d) (some : closed_off before.most now.ports now.links ≡ false)
-        (more : added (rests_at before.ports) 1 ≤ rests_at now.ports) where
-      -- as many owe an answer as may be open
-      full : has_room before.most now.links ≡ false → most_open ≤ count_by owes now.links
-      full none =
-          subst (λ n. most_open ≤ n) (opened_owe IsMade now.links at_rest.connections at_rest.are r.silent) (many_open before.most now.ports now.links none some)
+    -- those that owed an answer owe it
+    still_many : d.sent.halted ≡ false → (n : ℕ) → d.received.waits ≡ suc n → (had : HadNone before d) → most_open ≤ count_by is_for_answer had.pauses
+        → most_open ≤ count_by owes now.connections
+    still_many unfailed n is had many =
+        let few = paused-few IsMade parts (leads_of before) before.connections h.all h.heard d serves h.asked
+        (h.all_told unfailed ∙ take_length d.sent.told ∙ ap (λ k. take k d.sent.told) (sym (quiet (positive n d.received.waits is)))) had.pauses had.each in
+        let grow = owes-grow IsMade (leads_of before) before.connections now.connections r.goes.connections in
+        omega (arith, many, few, grow)
 
-      abbrev waits_now : Exchange
-      waits_now = record { received = without (suc d.received.waits) false; sent = d.sent }
-
-      -- those that waited before wait now
-      still_full : d.sent.halted ≡ false → (n : ℕ) → d.received.waits ≡ suc n → HadNone before d → (most_open ≤ count_by owes now.links) ⊎ HaveWaited d.received.waits before.ports
-      still_full unfailed n is had = elim (had.waited yet) [
-        | inl many ↦ inl (
-            let few = busy-few IsMade parts (leads_of before) before.links h.all h.heard d serves h.asked
-            (h.all_told unfailed ∙ take_length d.sent.told ∙ ap (λ k. take k d.sent.told) (sym (quiet (positive n d.received.waits is)))) had.busy had.each in
-            let grow = owes-grow IsMade (leads_of before) before.links now.links r.goes.links in
-            three most_open (count_by (λ (b : Bool). b) had.busy) (count_by owes before.links) (count_by owes now.links) many few grow)
-        | inr all ↦ inr all
-      ]
-        where
-          positive : (n w : ℕ) → w ≡ suc n → 0 < w
-          positive n w e = omega arith
-
-          three : (a b c e : ℕ) → a ≤ b → b ≤ c → c ≤ e → a ≤ e
-          three a b c e x y z = omega arith
-
-      -- as many wait as may be, or each door was tried as often
-      waited-so : d.sent.halted ≡ false → ((most_open ≤ count_by owes now.links) ⊎ HaveWaited (suc d.received.waits) now.ports) ⊎ (most_postings ≤ length d.received.given)
-      waited-so unfailed = elim r.tried [
-        | inl none ↦ inl (inl (full none))
-        | inr tried ↦ by_waits d.received.waits refl tried
-      ]
-        where
-          by_waits : (n : ℕ) → d.received.waits ≡ n → AreTried before.ports now.ports
-              → ((most_open ≤ count_by owes now.links) ⊎ HaveWaited (suc d.received.waits) now.ports) ⊎ (most_postings ≤ length d.received.given)
-          by_waits zero is tried =
-              inl (inr (subst (λ n. HaveWaited (suc n) now.ports) (sym is) (waited-more 0 before.ports now.ports r.goes.ports tried (waited-none before.ports))))
-          by_waits (suc n) is tried = elim (h.none unfailed (inr (positive n d.received.waits is))) [
-            | inl had ↦ elim (still_full unfailed n is had) [
-              | inl many ↦ inl (inl many)
-              | inr all ↦ inl (inr (waited-more d.received.waits before.ports now.ports r.goes.ports tried all))
-            ]
-            | inr many ↦ inr many
-          ]
-            where
-              positive : (n w : ℕ) → w ≡ suc n → 0 < w
-              positive n w e = omega arith
-
-      -- as often was rested
-      rested-so : d.sent.halted ≡ false
-          → (min (suc d.received.waits) (2 ^ 64 - 1) ≤ rests_at now.ports) ⊎ (most_postings ≤ length d.received.given)
-      rested-so unfailed = by_waits d.received.waits refl
-        where
-          none : (w cap rests : ℕ) → w ≡ 0 → min w cap ≤ rests
-          none w cap rests e = omega arith
-
-          positive : (n w : ℕ) → w ≡ suc n → 0 < w
-          positive n w e = omega arith
-
-          once : min d.received.waits (2 ^ 64 - 1) ≤ rests_at before.ports → min (suc d.received.waits) (2 ^ 64 - 1) ≤ rests_at now.ports
-          once few = once_more d.received.waits (rests_at before.ports) (2 ^ 64 - 1) (rests_at now.ports) few more
-
-          by_waits : (n : ℕ) → d.received.waits ≡ n
-              → (min (suc d.received.waits) (2 ^ 64 - 1) ≤ rests_at now.ports) ⊎ (most_postings ≤ length d.received.given)
-          by_waits zero is = inl (once (none d.received.waits (2 ^ 64 - 1) (rests_at before.ports) is))
-          by_waits (suc n) is = elim (h.none unfailed (inr (positive n d.received.waits is))) [
-            | inl had ↦ inl (once (had.rested yet))
-            | inr many ↦ inr many
-          ]
-
-      none_yet : d.sent.halted ≡ false → HadNone now waits_now ⊎ (most_postings ≤ length d.received.given)
-      none_yet unfailed = elim (waited-so unfailed) [
-        | inl waited ↦ elim (rested-so unfailed) [
-          | inl rested ↦ inl (record {
-            busy = map owes now.links;
-            each = busy-all IsMade parts (leads_of before) now.links h.all h.heard waits_now at_rest h.asked (told_then (suc d.received.waits) false unfailed) r.silent;
-            over = λ e. absurd (true≢false (sym e));
-            some = λ e. over_same ∙ some;
-            waited = λ e. elim waited [
-              | inl many ↦ inl (subst (λ n. most_open ≤ n) (sym (busy-count now.links)) many)
-              | inr all ↦ inr all
-            ];
-            rested = λ e. rested;
-          })
+    is_so : d.sent.halted ≡ false → IsSo ⊎ (most_postings ≤ length d.received.given)
+    is_so unfailed = by_waits d.received.waits refl
+      where
+        by_waits : (n : ℕ) → d.received.waits ≡ n → IsSo ⊎ (most_postings ≤ length d.received.given)
+        by_waits zero is = inl (once (none d.received.waits (2 ^ 64 - 1) waits_before is) (none d.received.waits (2 ^ 64 - 1) (rests_at before.doors) is))
+        by_waits (suc n) is = elim (h.none unfailed (inr (positive n d.received.waits is))) [
+          | inl had ↦ inl (elim (had.waited yet) [
+            | inl many ↦ (inl (still_many unfailed n is had many), once_more d.received.waits (rests_at before.doors) (2 ^ 64 - 1) (rests_at now.doors) (had.rested yet) more)
+            | inr few ↦ once few (had.rested yet)
+          ])
           | inr many ↦ inr many
         ]
-        | inr many ↦ inr many
-      ]
 
-      yet-so : d.sent.halted ≡ false → After (HasExchanged IsMade parts first (sides_of now notes)) (Asks parts nexts.NotYet d)
-      yet-so running = (
-        waits_now,
-        none-so r.goes running (suc d.received.waits) false none_yet,
-        record {
-          came = record { none = gives_none (suc d.received.waits) false; waits = refl; ended = refl };
-          silent = refl;
-          seen = refl;
-          noted = refl;
-        },
-      )
+    none_yet : d.sent.halted ≡ false → HadNone now waits_now ⊎ (most_postings ≤ length d.received.given)
+    none_yet unfailed = elim (is_so unfailed) [
+      | inl so ↦ inl (record {
+        pauses = map pause_of now.connections;
+        each = paused-all IsMade parts (leads_of before) now.connections h.all h.heard waits_now at_rest h.asked (h.all_told unfailed ∙ take_length d.sent.told)
+            before.connections r.paused;
+        over = λ e. absurd (true≢false (sym e));
+        waited = λ e. elim so.0 [
+          | inl many ↦ inl (subst (λ n. most_open ≤ n) (sym (pause-count now.connections)) many)
+          | inr few ↦ inr few
+        ];
+        rested = λ e. so.1;
+      })
+      | inr many ↦ inr many
+    ]
+
+    yet-so : d.sent.halted ≡ false → After (HasExchanged IsMade parts first (sides_of now notes)) (Asks parts nexts.NotYet d)
+    yet-so running = (
+      waits_now,
+      none-so r.goes running (suc d.received.waits) false none_yet,
+      record {
+        came = record { none = gives_none (suc d.received.waits) false; waits = refl; ended = refl };
+        silent = refl;
+        seen = refl;
+        noted = refl;
+      },
+    )
 
   -- ---- a posting comes
 
   module _ (p : Posting) (running : d.sent.halted ≡ false) (g : Posts IsMade before.most p (going_of before) (going_of now)) where
-    hands : Hands p (listing g.mid.links g.mid.traffics) (listing now.links now.traffics)
+    hands : Hands g.number p (listing g.mid.connections g.mid.traffics) (listing now.connections now.traffics)
     hands = g.hands
 
-    mid_serves : Serves IsMade parts (leads_of before) g.mid.links h.all h.heard
-    mid_serves = serves-on IsMade (leads_of before) parts before.links g.mid.links h.all h.heard g.goes.links serves
+    mid_serves : Serves IsMade parts (leads_of before) g.mid.connections h.all h.heard
+    mid_serves = serves-on IsMade (leads_of before) parts before.connections g.mid.connections h.all h.heard g.goes.connections serves
 
     long : length g.mid.traffics ≡ length h.all.asked
     long = ap length g.goes.traffics ∙ sym (ap length h.traffics) ∙ length-map h.all.asked (λ (a : Asked). a.traffic)
 
     -- whose request it is, and what it brings in
     abbrev asker : Asked
-    asker = next_of hands.number h.all.asked
+    asker = next_of g.number h.all.asked
 
     abbrev coming : Incoming
     coming = came_with hands.one.link.service hands.body
 
-    now_serves : Serves IsMade parts (leads_of before) now.links (one_more h.all asker coming) h.heard
+    now_serves : Serves IsMade parts (leads_of before) now.connections (one_more h.all asker coming) h.heard
     now_serves =
-        serves-more IsMade parts (leads_of before) (listing g.mid.links g.mid.traffics) (listing now.links now.traffics) h.all h.heard hands.number hands.body
+        serves-more IsMade parts (leads_of before) (listing g.mid.connections g.mid.traffics) (listing now.connections now.traffics) h.all h.heard g.number hands.body
         h.places long hands.one mid_serves
 
     abbrev received_now : Received
@@ -373,18 +381,18 @@ module _ (IsMade : WireTold → Type 0) (parts : ProgramParts) (first : Sides) (
     }
 
     services_now : services_of now ≡ services_of before
-    services_now = ap (map service_of) g.still ∙ services-same before.ports g.mid.ports g.goes.ports
+    services_now = ap (map service_of) g.doors ∙ services-same before.doors g.mid.doors g.goes.doors
 
     leads_now : leads_of now ≡ leads_of before
-    leads_now = ap (map lead_of) g.still ∙ leads-same before.ports g.mid.ports g.goes.ports
+    leads_now = ap (map lead_of) g.doors ∙ leads-same before.doors g.mid.doors g.goes.doors
 
     -- the services are those of the leads
     services_led : (ports : List ListenerTold) → map (λ (lead : Lead). lead.service) (map lead_of ports) ≡ map (λ (p : ListenerTold). p.service) ports
     services_led [] = refl
     services_led (q ∷ qs) = ap (λ ns. q.service ∷ ns) (services_led qs)
 
-    links_now : length now.links ≡ length g.mid.links
-    links_now = ap length hands.one.set ∙ length_set g.mid.links hands.number hands.one.later
+    links_now : length now.connections ≡ length g.mid.connections
+    links_now = ap length hands.one.set ∙ length_set g.mid.connections g.number hands.one.later
 
     given_now : d.received.given ++ p ∷ [] ≡ map posting_of (h.all.came ++ coming ∷ [])
     given_now =
@@ -393,22 +401,15 @@ module _ (IsMade : WireTold → Type 0) (parts : ProgramParts) (first : Sides) (
     traffics_now : map (λ (a : Asked). a.traffic) (h.all.asked ++ asker ∷ []) ≡ now.traffics
     traffics_now =
         map-append (λ (a : Asked). a.traffic) h.all.asked (asker ∷ [])
-        ∙ ap (λ ts. ts ++ hands.number ∷ []) (h.traffics ∙ sym g.goes.traffics) ∙ sym hands.kept
+        ∙ ap (λ ts. ts ++ g.number ∷ []) (h.traffics ∙ sym g.goes.traffics) ∙ sym hands.kept
 
     -- each request before it on its connection had been told of
     told_before : (i : ℕ) (a : Asked) → slice_get d.received.asked i ≡ Some a → a.traffic ≡ asker.traffic
         → list_any (λ (t : Told). nat_eq i t.place) (take (length d.sent.told) d.sent.told) ≡ true
     told_before i a there traffic =
         told_all (λ (t : Told). nat_eq i t.place) h.heard d.sent.told h.told
-        (heard-where_reads IsMade parts (leads_of before) g.mid.links h.all h.heard mid_serves hands.number hands.one.link hands.one.there hands.one.read
+        (heard-where_asks IsMade parts (leads_of before) g.mid.connections h.all h.heard mid_serves g.number hands.one.link hands.one.there hands.one.asking
         i a (ap (λ xs. slice_get xs i) h.asked ∙ there) traffic)
-
-    -- and each connection before its own waited for an answer or was over
-    in_turn_now : CameInTurn (record { received = received_now; sent = d.sent }) now.links
-    in_turn_now =
-        in_turn-asked IsMade parts (leads_of before) (listing g.mid.links g.mid.traffics) (listing now.links now.traffics) h.all h.heard
-        (record { received = without 0 false; sent = d.sent }) hands.number hands.body hands.one mid_serves h.asked
-        (h.all_told running ∙ take_length d.sent.told) refl h.one_by_one.counts (in_turn-goes g.mid.links g.goes.links)
 
     none_now : GaveNone (record { received = received_now; sent = d.sent }) → ⊥
     none_now gave = elim gave [ inl e ↦ true≢false (sym e) | inr more ↦ (omega arith) ]
@@ -416,17 +417,17 @@ module _ (IsMade : WireTold → Type 0) (parts : ProgramParts) (first : Sides) (
     exchanged_now : HasExchanged IsMade parts first (sides_of now notes) (record { received = received_now; sent = d.sent })
     exchanged_now = record {
       services = services_now ∙ h.services;
-      in_place = ap (map place_of) g.still ∙ places-same before.ports g.mid.ports g.goes.ports ∙ h.in_place;
+      in_place = ap (map place_of) g.doors ∙ places-same before.doors g.mid.doors g.goes.doors ∙ h.in_place;
       most = most ∙ h.most;
       within = ap (list_all (λ n. nat_lt n (length parts.services))) services_now ∙ h.within;
       connections = now_serves.connections;
-      links = now_serves.are;
-      came_in = ap (sum_by wires_of) g.still ∙ g.goes.wires h.came_in ∙ sym links_now;
-      led = subst (λ ps. AreLed ps now.links) (sym g.still)
-          (led-asked g.mid.ports hands.number (Some hands.body) (listing g.mid.links g.mid.traffics) (listing now.links now.traffics) hands.one
+      clients = now_serves.are;
+      came_in = ap (sum_by wires_of) g.doors ∙ g.goes.wires h.came_in ∙ sym links_now;
+      led = subst (λ ps. AreLed ps now.connections) (sym g.doors)
+          (led-asked g.mid.doors g.number hands.body (listing g.mid.connections g.mid.traffics) (listing now.connections now.traffics) hands.one
           (g.goes.led h.came_in h.led));
-      doors = subst (λ ls. list_all (λ (v : RunConnection). list_any (is_led v.door v.service) ls) now_serves.connections ≡ true) (sym leads_now) now_serves.doors;
-      accepted = subst (λ n. n ≤ now.most) (sym links_now) (subst (λ n. length g.mid.links ≤ n) (sym most) (g.goes.within h.accepted));
+      at_doors = subst (λ ls. list_all (λ (v : RunConnection). list_any (is_led v.door v.service) ls) now_serves.connections ≡ true) (sym leads_now) now_serves.doors;
+      accepted = subst (λ n. n ≤ now.most) (sym links_now) (subst (λ n. length g.mid.connections ≤ n) (sym most) (g.goes.within h.accepted));
       all = one_more h.all asker coming;
       asked = ap (λ xs. xs ++ asker ∷ []) h.asked;
       traffics = traffics_now;
@@ -444,7 +445,6 @@ module _ (IsMade : WireTold → Type 0) (parts : ProgramParts) (first : Sides) (
         counts = one_count_more d.received.asked d.received.seens asker (length d.sent.told) h.one_by_one.counts;
         each = told_first-more d.received.asked d.received.seens d.sent.told asker h.one_by_one.counts h.one_by_one.each told_before;
       };
-      in_turn = in_turn_now;
       sent = sent_still;
       noted_by_then = all_taken running;
       left = refl;
@@ -456,8 +456,8 @@ module _ (IsMade : WireTold → Type 0) (parts : ProgramParts) (first : Sides) (
     has_service : nat_lt hands.one.link.service (length parts.services) ≡ true
     has_service =
         each_is (λ n. nat_lt n (length parts.services)) hands.one.link.service (services_of before) h.within
-        (subst (λ ns. list_any (nat_eq hands.one.link.service) ns ≡ true) (services_led before.ports)
-        (service_there IsMade parts (leads_of before) (listing g.mid.links g.mid.traffics) (listing now.links now.traffics) h.all h.heard hands.number hands.body
+        (subst (λ ns. list_any (nat_eq hands.one.link.service) ns ≡ true) (services_led before.doors)
+        (service_there IsMade parts (leads_of before) (listing g.mid.connections g.mid.traffics) (listing now.connections now.traffics) h.all h.heard g.number hands.body
         h.places long hands.one mid_serves))
 
     gives_now : Gives parts p d.received received_now
@@ -466,7 +466,7 @@ module _ (IsMade : WireTold → Type 0) (parts : ProgramParts) (first : Sides) (
       within = let one = length_push d.received.given p in let few = g.fewer in let many = given_count in omega arith;
       whose = asker;
       asked = refl;
-      request = ap (count_by (is_of hands.number)) h.asked;
+      request = ap (count_by (is_of g.number)) h.asked;
       services = subst (λ (q : Posting). list_all (names_service parts) q.calls ≡ true) (sym hands.posting)
           (all_named parts hands.one.link.service has_service coming.read.calls);
       left = subst (λ l. Leaves p l d.received received_now) (sym h.left) refl;
@@ -485,9 +485,9 @@ module _ (IsMade : WireTold → Type 0) (parts : ProgramParts) (first : Sides) (
   pub asked-so : (which : Next) → d.received.ended ≡ false → d.sent.halted ≡ false → IsQuiet d → Looks IsMade before.most which (going_of before) (going_of now)
       → After (HasExchanged IsMade parts first (sides_of now notes)) (Asks parts which d)
   asked-so (nexts.Posting p) yet running quiet l = post-so p running l
-  asked-so nexts.NotYet yet running quiet l = yet-so l.0 yet quiet l.1 l.2 running
+  asked-so nexts.NotYet yet running quiet l = yet-so l.0 yet quiet (l.2 h.came_in) running
   asked-so nexts.End yet running quiet l =
-      elim l [ inl many ↦ most-so running many.1 many.0 | inr rest ↦ over-so rest.0 running rest.1 ]
+      elim l [ inl many ↦ most-so running many.1 many.0 | inr ended ↦ over-so running ended ]
 
 -- ---- and where memory ran out
 

@@ -1,19 +1,19 @@
 -- Doors as they go on.
-use Rattle.std.proofs.Common.{◌≡◌, refl, sym, ap₂, ◌∙◌, subst, arith, ℕ, ◌+◌, ◌-◌, ◌^◌, ◌≤◌, min, false, inl, inr, List, [], ◌∷◌, ◌++◌, map}
+use Rattle.std.proofs.Common.{◌≡◌, refl, sym, ap, ap₂, ◌∙◌, subst, arith, ℕ, ◌+◌, ◌-◌, ◌^◌, ◌≤◌, min, false, inl, inr, List, [], ◌∷◌, ◌++◌, map}
 use Rattle.std.specs.List.{sum_by}
 use Rattle.std.proofs.lemmas.Bool.{true≢false}
 use Rattle.std.proofs.lemmas.List.Sums.{sum_by-cons}
-use Rattle.outside_doors.specs.Counts.{added, has_ended}
+use Rattle.outside_doors.specs.Counts.{DoorTold, added, has_ended}
 use Rattle.run_door_front.specs.Keeping.{lead_of, ListenerTold, rests_at}
 use Rattle.run_door_front.specs.NextSteps.{HasNotFallen, GoesOn, IsTried, AllGoOn, AreTried, service_of, place_of}
 
 -- ---- one door
 
 -- with any last value of their type
-not_fallen : (a cap : ℕ) → min a cap ≤ a
+pub not_fallen : (a cap : ℕ) → min a cap ≤ a
 not_fallen a cap = omega arith
 
-fallen_further : (a b c cap : ℕ) → min a cap ≤ b → min b cap ≤ c → min a cap ≤ c
+pub fallen_further : (a b c cap : ℕ) → min a cap ≤ b → min b cap ≤ c → min a cap ≤ c
 fallen_further a b c cap h k = omega arith
 
 pub one_more : (a b c cap : ℕ) → min a cap ≤ b → min (b + 1) cap ≤ c → min (a + 1) cap ≤ c
@@ -33,6 +33,7 @@ goes-same p = record {
   service = refl;
   place = refl;
   ended = λ e. e;
+  untried = λ e. refl;
   waits = not_fallen p.door.waits (2 ^ 64 - 1);
   rests = not_fallen p.door.rests (2 ^ 64 - 1);
 }
@@ -42,6 +43,7 @@ goes-further p q r g h = record {
   service = h.service ∙ g.service;
   place = h.place ∙ g.place;
   ended = λ e. h.ended (g.ended e);
+  untried = λ e. h.untried (g.ended e) ∙ ap (λ (d : DoorTold). record d { rests = r.door.rests }) (g.untried e);
   waits = fallen_further p.door.waits q.door.waits r.door.waits (2 ^ 64 - 1) g.waits h.waits;
   rests = fallen_further p.door.rests q.door.rests r.door.rests (2 ^ 64 - 1) g.rests h.rests;
 }
@@ -54,6 +56,7 @@ goes-tried told p q same service place running waits rests =
       service = service;
       place = place;
       ended = λ e. absurd (true≢false (sym e ∙ running));
+      untried = λ e. absurd (true≢false (sym e ∙ running));
       waits = waits;
       rests = rests;
     })
@@ -109,7 +112,7 @@ places-same (p ∷ ps) [] g = absurd g
 places-same (p ∷ ps) (q ∷ qs) g = ap₂ (λ n ns. n ∷ ns) g.0.place (places-same ps qs g.1)
 
 -- with any last value of their type
-sum_not_fallen : (p s q t m n cap : ℕ) → m ≡ p + s → n ≡ q + t → min p cap ≤ q → min s cap ≤ t → min m cap ≤ n
+pub sum_not_fallen : (p s q t m n cap : ℕ) → m ≡ p + s → n ≡ q + t → min p cap ≤ q → min s cap ≤ t → min m cap ≤ n
 sum_not_fallen p s q t m n cap a b h k = omega arith
 
 -- all of their rests do not fall
@@ -120,6 +123,16 @@ rests-on (p ∷ ps) [] g = absurd g
 rests-on (p ∷ ps) (q ∷ qs) g =
     sum_not_fallen p.door.rests (rests_at ps) q.door.rests (rests_at qs) (rests_at (p ∷ ps)) (rests_at (q ∷ qs)) (2 ^ 64 - 1)
     (sum_by-cons (λ (p : ListenerTold). p.door.rests) p ps) (sum_by-cons (λ (p : ListenerTold). p.door.rests) q qs) g.0.rests (rests-on ps qs g.1)
+
+-- all of their waits do not fall
+pub waits-on : (ps qs : List ListenerTold) → AllGoOn ps qs → HasNotFallen (sum_by (λ (p : ListenerTold). p.door.waits) ps) (sum_by (λ (p : ListenerTold). p.door.waits) qs)
+waits-on [] [] g = not_fallen 0 (2 ^ 64 - 1)
+waits-on [] (q ∷ qs) g = absurd g
+waits-on (p ∷ ps) [] g = absurd g
+waits-on (p ∷ ps) (q ∷ qs) g =
+    sum_not_fallen p.door.waits (sum_by (λ (p : ListenerTold). p.door.waits) ps) q.door.waits (sum_by (λ (p : ListenerTold). p.door.waits) qs)
+    (sum_by (λ (p : ListenerTold). p.door.waits) (p ∷ ps)) (sum_by (λ (p : ListenerTold). p.door.waits) (q ∷ qs)) (2 ^ 64 - 1)
+    (sum_by-cons (λ (p : ListenerTold). p.door.waits) p ps) (sum_by-cons (λ (p : ListenerTold). p.door.waits) q qs) g.0.waits (waits-on ps qs g.1)
 
 -- one door more
 pub all-push : (ps qs : List ListenerTold) (p q : ListenerTold) → AllGoOn ps qs → GoesOn p q → AllGoOn (ps ++ p ∷ []) (qs ++ q ∷ [])

@@ -1,5 +1,5 @@
 -- How many wires and connections lead to a service.
-use Rattle.std.proofs.Common.{◌≡◌, refl, sym, ap, ap₂, ◌∙◌, arith, ℕ, ◌+◌, Bool, true, false, cond, List, [], ◌∷◌, ◌++◌, Option, Some, count_by, nat_eq, slice_get, slice_set}
+use Rattle.std.proofs.Common.{◌≡◌, refl, sym, ap, ap₂, ◌∙◌, arith, ℕ, ◌+◌, Bool, true, false, cond, List, [], ◌∷◌, ◌++◌, Some, count_by, nat_eq, slice_get, slice_set}
 use Rattle.std.specs.List.{sum_by}
 use Rattle.std.proofs.lemmas.List.Sums.{sum_by-cons, sum_by-append}
 use Rattle.outside_doors.specs.Counts.{DoorTold}
@@ -88,10 +88,10 @@ led-set ports links now k link later there same set all n =
     ∙ sym (ap (count_by (leads_to n)) set ∙ count_set (leads_to n) links k link later there (ap (nat_eq n) same))
 
 -- so does one that was asked for its next request
-pub led-asked : (ports : List ListenerTold) (number : ℕ) (body : Option (List ℕ)) (before now : Listing) → AsksOne number body before now
-    → AreLed ports before.links → AreLed ports now.links
+pub led-asked : (ports : List ListenerTold) (number : ℕ) (body : List ℕ) (before now : Listing) → AsksOne number body before now
+    → AreLed ports before.connections → AreLed ports now.connections
 led-asked ports number body before now one all =
-    led-set ports before.links now.links number one.link one.later one.there one.asked.service one.set all
+    led-set ports before.connections now.connections number one.link one.later one.there one.asked.service one.set all
 
 -- ---- before anybody came
 

@@ -1,63 +1,23 @@
--- Connections as they come and go on without a request.
-use Rattle.std.proofs.Common.{◌≡◌, refl, sym, ap, ap₂, ◌∙◌, subst, arith, ℕ, zero, suc, ◌+◌, ◌<◌, Bool, true, false, ◌||◌, inl, inr, List, [], ◌∷◌, ◌++◌, length, None, Some, count_by, slice_get, slice_set, nat_lt, append-nil, length-append}
+-- Connections as they come and go on while nothing is posted.
+use Rattle.std.proofs.Common.{◌≡◌, refl, sym, ap, ap₂, ◌∙◌, subst, arith, ℕ, zero, suc, ◌-◌, ◌^◌, ◌<◌, ◌≤◌, Bool, true, false, ◌||◌, inl, inr, List, [], ◌∷◌, ◌++◌, length, Some, slice_get, slice_set, nat_lt}
 use Rattle.std.proofs.lemmas.Bool.{and_parts, and_from, lt-ltb, ltb-true, true≢false}
 use Rattle.std.proofs.lemmas.Option.{none-some, same_Some}
 use Rattle.std.proofs.lemmas.List.Folds.{list_any-append}
 use Rattle.std.specs.List.{list_any}
-use Rattle.http_connection.specs.declared.stage.Stage.{Stage}
-use Rattle.http_connection.specs.declared.stage.Stage.TheVariants as Stages
-use Rattle.http_connection.specs.Stages.{IsOver}
+use Rattle.conn_future.specs.declared.stage.Stage.{Stage}
+use Rattle.conn_future.specs.declared.stage.Stage.TheVariants as Stages
+use Rattle.conn_future.specs.Stages.{IsAtRest, IsOver}
+use Rattle.conn_future.specs.Talking.{IsTalking}
 use Rattle.outside_traits.specs.Told.{WireTold}
-use Rattle.http_connection.specs.Talking.{handed, IsTalking}
-use Rattle.run_door_front.specs.Keeping.{is_led, Lead, ClientTold}
-use Rattle.run_door_front.specs.Exchanged.{most_open}
-use Rattle.run_door_front.specs.NextSteps.{came_by, stage_at, is_open, has_room, IsNewClient, AreNewLinks, ClientGoesOn, LinksGoOn, IsAsked}
-use Rattle.run_door_front.proofs.Entries.{count_append}
+use Rattle.run_door_front.specs.Keeping.{is_led, Lead, ClientTold, stage_at, most_open}
+use Rattle.run_door_front.specs.NextSteps.{came_by, has_room, IsNewClient, AreNewLinks, ClientGoesOn, ClientsGoOn, LinksGoOn}
+use Rattle.run_door_front.proofs.Doors.{not_fallen, fallen_further}
 
 -- ---- stages
 
--- a connection that reads is not over
-pub reads_not_over : (s : Stage) → s ≡ Stages.Reads → IsOver s → ⊥
-reads_not_over s e o = elim o [
-  | inl a ↦ (let clash : Stages.Reads ≡ Stages.Ended = sym e ∙ a in cc)
-  | inr b ↦ elim b [
-    | inl a ↦ (let clash : Stages.Reads ≡ Stages.Closed = sym e ∙ a in cc)
-    | inr failed ↦ elim failed [
-      | inl a ↦ (let clash : Stages.Reads ≡ Stages.ReadFailed = sym e ∙ a in cc)
-      | inr a ↦ (let clash : Stages.Reads ≡ Stages.WriteFailed = sym e ∙ a in cc)
-    ]
-  ]
-]
-
-pub reads_not_owes : (s : Stage) → s ≡ Stages.Reads → s ≡ Stages.Owes → ⊥
-reads_not_owes s e o = let clash : Stages.Reads ≡ Stages.Owes = sym e ∙ o in cc
-
-pub reads_not_ended : (s : Stage) → s ≡ Stages.Reads → s ≡ Stages.Ended → ⊥
-reads_not_ended s e o = let clash : Stages.Reads ≡ Stages.Ended = sym e ∙ o in cc
-
-pub over_not_owes : (s : Stage) → IsOver s → s ≡ Stages.Owes → ⊥
-over_not_owes s o e = elim o [
-  | inl a ↦ (let clash : Stages.Owes ≡ Stages.Ended = sym e ∙ a in cc)
-  | inr b ↦ elim b [
-    | inl a ↦ (let clash : Stages.Owes ≡ Stages.Closed = sym e ∙ a in cc)
-    | inr failed ↦ elim failed [
-      | inl a ↦ (let clash : Stages.Owes ≡ Stages.ReadFailed = sym e ∙ a in cc)
-      | inr a ↦ (let clash : Stages.Owes ≡ Stages.WriteFailed = sym e ∙ a in cc)
-    ]
-  ]
-]
-
-pub over_not_spent : (s : Stage) → IsOver s → s ≡ Stages.Spent → ⊥
-over_not_spent s o e = elim o [
-  | inl a ↦ (let clash : Stages.Spent ≡ Stages.Ended = sym e ∙ a in cc)
-  | inr b ↦ elim b [
-    | inl a ↦ (let clash : Stages.Spent ≡ Stages.Closed = sym e ∙ a in cc)
-    | inr failed ↦ elim failed [
-      | inl a ↦ (let clash : Stages.Spent ≡ Stages.ReadFailed = sym e ∙ a in cc)
-      | inr a ↦ (let clash : Stages.Spent ≡ Stages.WriteFailed = sym e ∙ a in cc)
-    ]
-  ]
-]
+-- a connection that asks does not owe
+pub asks_not_owes : (s : Stage) → s ≡ Stages.Asks → s ≡ Stages.Owes → ⊥
+asks_not_owes s e o = let clash : Stages.Asks ≡ Stages.Owes = sym e ∙ o in cc
 
 -- ---- room
 
@@ -66,23 +26,16 @@ not_true : (b : Bool) → (b ≡ true → ⊥) → b ≡ false
 not_true true h = absurd (h refl)
 not_true false h = refl
 
-less : (m n k : ℕ) → m + k < n → m < n
-less m n k h = omega arith
+less : (m n k : ℕ) → m ≤ n → n < k → m < k
+less m n k h l = omega arith
 
-room_before : (most : ℕ) (links more : List ClientTold) → has_room most (links ++ more) ≡ true → has_room most links ≡ true
-room_before most links more h =
-    let both = and_parts (nat_lt (length (links ++ more)) most) (nat_lt (count_by is_open (links ++ more)) most_open) h in
-    let fewer : length links + length more < most = subst (λ n. n < most) (length-append links more) (ltb-true (length (links ++ more)) most both.0) in
-    let opened : count_by is_open links + count_by is_open more < most_open =
-    subst (λ n. n < most_open) (count_append is_open links more) (ltb-true (count_by is_open (links ++ more)) most_open both.1) in
-    and_from (nat_lt (length links) most) (nat_lt (count_by is_open links) most_open)
-    (lt-ltb (length links) most (less (length links) most (length more) fewer))
-    (lt-ltb (count_by is_open links) most_open (less (count_by is_open links) most_open (count_by is_open more) opened))
-
--- where there is no more room there is none behind more connections
-pub no_room-behind : (most : ℕ) (links more : List ClientTold) → has_room most links ≡ false → has_room most (links ++ more) ≡ false
-no_room-behind most links more h =
-    not_true (has_room most (links ++ more)) (λ e. true≢false (sym (room_before most links more e) ∙ h))
+-- where there is no more room there is none where more came
+pub no_room-more : (most a b o p : ℕ) → a ≤ b → o ≤ p → has_room most a o ≡ false → has_room most b p ≡ false
+no_room-more most a b o p more wider none = not_true (has_room most b p) (λ e.
+    let both = and_parts (nat_lt b most) (nat_lt p most_open) e in
+    true≢false (sym (and_from (nat_lt a most) (nat_lt o most_open)
+    (lt-ltb a most (less a b most more (ltb-true b most both.0)))
+    (lt-ltb o most_open (less o p most_open wider (ltb-true p most_open both.1)))) ∙ none))
 
 -- ---- new connections
 
@@ -114,23 +67,67 @@ any-right p xs ys e = list_any-append p xs ys ∙ or_right (list_any p xs) (list
 
 -- ---- connections go on
 
-pub link-same : (l : ClientTold) → ClientGoesOn l l
-link-same l = record { service = refl; pending = refl; stage = inl refl; owes = λ e. refl; talks = λ first bodies texts t. t; ended = λ first bodies texts t o k. k }
-
--- one that reads was asked, and no request of it comes any more
-pub link-ended : (place : ℕ) (l m n : ClientTold) → ClientGoesOn l m → stage_at m ≡ Stages.Reads → IsAsked place None m n → ClientGoesOn l n
-link-ended place l m n g e a = record {
-  service = a.service ∙ g.service;
-  pending = a.pending ∙ g.pending;
-  stage = elim g.stage [
-    | inl same ↦ inr (sym same ∙ e, a.stage)
-    | inr over ↦ absurd (reads_not_over (stage_at m) e over.1)
-  ];
-  owes = λ o. absurd (reads_not_owes (stage_at m) e (ap stage_at (g.owes o) ∙ o));
-  talks = λ first bodies texts t.
-      subst (λ b. IsTalking first n.seen b texts) (append-nil bodies) (a.talks first bodies texts (g.talks first bodies texts t));
-  ended = λ first bodies texts t o k. a.ended first bodies texts (g.talks first bodies texts t) o;
+pub client-same : (l : ClientTold) → ClientGoesOn l l
+client-same l = record {
+  service = refl;
+  pending = refl;
+  rests = λ r. refl;
+  unowed = λ e. e;
+  memory = λ e. e;
+  waits = not_fallen l.waits (2 ^ 64 - 1);
+  talks = λ first bodies texts t. t;
 }
+
+pub client-further : (l m n : ClientTold) → ClientGoesOn l m → ClientGoesOn m n → ClientGoesOn l n
+client-further l m n g h = record {
+  service = h.service ∙ g.service;
+  pending = h.pending ∙ g.pending;
+  rests = λ r. h.rests (subst (λ (x : ClientTold). IsAtRest (stage_at x)) (sym (g.rests r)) r) ∙ g.rests r;
+  unowed = λ e. g.unowed (h.unowed e);
+  memory = λ e. g.memory (h.memory e);
+  waits = fallen_further l.waits m.waits n.waits (2 ^ 64 - 1) g.waits h.waits;
+  talks = λ first bodies texts t. h.talks first bodies texts (g.talks first bodies texts t);
+}
+
+pub clients-same : (ls : List ClientTold) → ClientsGoOn ls ls
+clients-same [] = tt
+clients-same (l ∷ ls) = (client-same l, clients-same ls)
+
+pub clients-further : (ls ms ns : List ClientTold) → ClientsGoOn ls ms → ClientsGoOn ms ns → ClientsGoOn ls ns
+clients-further [] [] [] g h = tt
+clients-further [] [] (n ∷ ns) g h = h
+clients-further [] (m ∷ ms) ns g h = absurd g
+clients-further (l ∷ ls) [] ns g h = absurd g
+clients-further (l ∷ ls) (m ∷ ms) [] g h = h
+clients-further (l ∷ ls) (m ∷ ms) (n ∷ ns) g h = (client-further l m n g.0 h.0, clients-further ls ms ns g.1 h.1)
+
+-- one of them goes on
+pub clients-set : (ls : List ClientTold) (k : ℕ) (l m : ClientTold) → slice_get ls k ≡ Some l → ClientGoesOn l m → ClientsGoOn ls (slice_set ls k m)
+clients-set [] k l m is g = absurd (none-some l is)
+clients-set (x ∷ ls) zero l m is g = (subst (λ y. ClientGoesOn y m) (sym (same_Some x l is)) g, clients-same ls)
+clients-set (x ∷ ls) (suc k) l m is g = (client-same x, clients-set ls k l m is g)
+
+pub clients-long : (ls ms : List ClientTold) → ClientsGoOn ls ms → length ms ≡ length ls
+clients-long [] [] g = refl
+clients-long [] (m ∷ ms) g = absurd g
+clients-long (l ∷ ls) [] g = absurd g
+clients-long (l ∷ ls) (m ∷ ms) g = ap suc (clients-long ls ms g.1)
+
+-- what stands at a place goes on
+pub clients-at : (ls ms : List ClientTold) (k : ℕ) (l : ClientTold) → ClientsGoOn ls ms → slice_get ls k ≡ Some l
+    → (m : ClientTold) × (slice_get ms k ≡ Some m) × ClientGoesOn l m
+clients-at [] ms k l g is = absurd (none-some l is)
+clients-at (x ∷ ls) [] k l g is = absurd g
+clients-at (x ∷ ls) (m ∷ ms) zero l g is = (m, refl, subst (λ y. ClientGoesOn y m) (same_Some x l is) g.0)
+clients-at (x ∷ ls) (m ∷ ms) (suc k) l g is = clients-at ls ms k l g.1 is
+
+-- what stands at a place went on
+pub clients-before : (ls ms : List ClientTold) (k : ℕ) (m : ClientTold) → ClientsGoOn ls ms → slice_get ms k ≡ Some m
+    → (l : ClientTold) × (slice_get ls k ≡ Some l) × ClientGoesOn l m
+clients-before ls [] k m g is = absurd (none-some m is)
+clients-before [] (x ∷ ms) k m g is = absurd g
+clients-before (l ∷ ls) (x ∷ ms) zero m g is = (l, refl, subst (ClientGoesOn l) (same_Some x m is) g.0)
+clients-before (l ∷ ls) (x ∷ ms) (suc k) m g is = clients-before ls ms k m g.1 is
 
 -- a connection that leads where another does, by the same door, came where that did
 came_on : (leads : List Lead) (l m : ClientTold) → m.seen.line.door ≡ l.seen.line.door → m.service ≡ l.service
@@ -140,7 +137,7 @@ came_on leads l m door service came = ap₂ (λ d s. list_any (is_led d s) leads
 module _ (IsMade : WireTold → Type 0) (leads : List Lead) where
   pub links-same : (ls : List ClientTold) → LinksGoOn IsMade leads ls ls
   links-same [] = tt
-  links-same (l ∷ ls) = (link-same l, links-same ls)
+  links-same (l ∷ ls) = (client-same l, links-same ls)
 
   -- more connections came
   pub links-more : (ls ms more : List ClientTold) → LinksGoOn IsMade leads ls ms → AreNewLinks IsMade leads more
@@ -149,44 +146,42 @@ module _ (IsMade : WireTold → Type 0) (leads : List Lead) where
   links-more (l ∷ ls) [] more g h = absurd g
   links-more (l ∷ ls) (m ∷ ms) more g h = (g.0, links-more ls ms more g.1 h)
 
-  module _ (place : ℕ) where
-    -- a new one was asked, and no request of it comes any more
-    new-ended : (m n : ClientTold) → stage_at m ≡ Stages.Reads → IsAsked place None m n → IsNewClient IsMade m → IsNewClient IsMade n
-    new-ended m n e a g = record {
-      pending = a.pending ∙ g.pending;
-      stage = inr a.stage;
-      first = g.first;
-      made = g.made;
-      fresh = g.fresh;
-      talks = a.talks g.first [] [] g.talks;
-      ended = a.ended g.first [] [] g.talks g.fresh.is_open;
-    }
+  -- a new one goes on
+  new_on : (m n : ClientTold) → ClientGoesOn m n → IsNewClient IsMade m → IsNewClient IsMade n
+  new_on m n g h = record {
+    pending = g.pending ∙ h.pending;
+    unowed = λ e. h.unowed (g.unowed e);
+    memory = λ e. h.memory (g.memory e);
+    first = h.first;
+    made = h.made;
+    fresh = h.fresh;
+    talks = g.talks h.first [] [] h.talks;
+  }
 
-    -- its wire tells the same door
-    door_on : (m n : ClientTold) → IsAsked place None m n → IsNewClient IsMade m → n.seen.line.door ≡ m.seen.line.door
-    door_on m n a g =
-        let before : IsTalking g.first m.seen [] [] = g.talks in
-        let after : IsTalking g.first n.seen ([] ++ handed None) [] = a.talks g.first [] [] g.talks in
-        after.door ∙ sym before.door
+  -- its wire tells the same door
+  door_on : (m n : ClientTold) → ClientGoesOn m n → IsNewClient IsMade m → n.seen.line.door ≡ m.seen.line.door
+  door_on m n g h =
+      let before : IsTalking h.first m.seen [] [] = h.talks in
+      let after : IsTalking h.first n.seen [] [] = g.talks h.first [] [] h.talks in
+      after.talks.door ∙ sym before.talks.door
 
-    news-ended : (ms : List ClientTold) (k : ℕ) (m n : ClientTold) → slice_get ms k ≡ Some m → stage_at m ≡ Stages.Reads → IsAsked place None m n
-        → AreNewLinks IsMade leads ms → AreNewLinks IsMade leads (slice_set ms k n)
-    news-ended [] k m n is e a g = absurd (none-some m is)
-    news-ended (x ∷ ms) zero m n is e a g =
-        let same : x ≡ m = same_Some x m is in (
-          came_on leads x n (door_on m n a (subst (IsNewClient IsMade) same g.1) ∙ sym (ap (λ (l : ClientTold). l.seen.line.door) same))
-              (a.service ∙ sym (ap (λ (l : ClientTold). l.service) same)) g.0,
-          new-ended m n e a (subst (IsNewClient IsMade) same g.1),
-          g.2,
-        )
-    news-ended (x ∷ ms) (suc k) m n is e a g = (g.0, g.1, news-ended ms k m n is e a g.2)
+  news_on : (ms ns : List ClientTold) → ClientsGoOn ms ns → AreNewLinks IsMade leads ms → AreNewLinks IsMade leads ns
+  news_on [] [] g h = tt
+  news_on [] (n ∷ ns) g h = absurd g
+  news_on (m ∷ ms) [] g h = absurd g
+  news_on (m ∷ ms) (n ∷ ns) g h = (came_on leads m n (door_on m n g.0 h.1) g.0.service h.0, new_on m n g.0 h.1, news_on ms ns g.1 h.2)
 
-    -- one that reads was asked, and no request of it comes any more
-    pub links-ended : (ls ms : List ClientTold) (k : ℕ) (m n : ClientTold) → slice_get ms k ≡ Some m → stage_at m ≡ Stages.Reads → IsAsked place None m n
-        → LinksGoOn IsMade leads ls ms → LinksGoOn IsMade leads ls (slice_set ms k n)
-    links-ended [] ms k m n is e a g = news-ended ms k m n is e a g
-    links-ended (l ∷ ls) [] k m n is e a g = absurd g
-    links-ended (l ∷ ls) (x ∷ ms) zero m n is e a g =
-        let same : x ≡ m = same_Some x m is in
-        (link-ended place l m n (subst (ClientGoesOn l) same g.0) e a, g.1)
-    links-ended (l ∷ ls) (x ∷ ms) (suc k) m n is e a g = (g.0, links-ended ls ms k m n is e a g.1)
+  -- all of them go on
+  pub links-on : (ls ms ns : List ClientTold) → LinksGoOn IsMade leads ls ms → ClientsGoOn ms ns → LinksGoOn IsMade leads ls ns
+  links-on [] ms ns g h = news_on ms ns h g
+  links-on (l ∷ ls) [] ns g h = absurd g
+  links-on (l ∷ ls) (m ∷ ms) [] g h = absurd h
+  links-on (l ∷ ls) (m ∷ ms) (n ∷ ns) g h = (client-further l m n g.0 h.0, links-on ls ms ns g.1 h.1)
+
+  -- one that was there went on
+  pub links-at : (ls ms : List ClientTold) (k : ℕ) (l : ClientTold) → LinksGoOn IsMade leads ls ms → slice_get ls k ≡ Some l
+      → (m : ClientTold) × (slice_get ms k ≡ Some m) × ClientGoesOn l m
+  links-at [] ms k l g is = absurd (none-some l is)
+  links-at (x ∷ ls) [] k l g is = absurd g
+  links-at (x ∷ ls) (m ∷ ms) zero l g is = (m, refl, subst (λ y. ClientGoesOn y m) (same_Some x l is) g.0)
+  links-at (x ∷ ls) (m ∷ ms) (suc k) l g is = links-at ls ms k l g.1 is

@@ -8,13 +8,12 @@ use Rattle.behaviour_tree.specs.Data.{ProgramParts}
 use Rattle.run_theorem.specs.Exchange.{Asked, Told, Sent, Exchange}
 use Rattle.run_theorem.specs.Lines.{IsPrefix}
 use Rattle.run_theorem.specs.Served.{Requests}
-use Rattle.http_connection.specs.declared.stage.Stage.TheVariants as Stages
+use Rattle.conn_future.specs.declared.stage.Stage.TheVariants as Stages
 use Rattle.outside_traits.specs.Told.{WireTold}
-use Rattle.run_door_front.specs.Keeping.{Lead, ClientTold}
+use Rattle.run_door_front.specs.Keeping.{Lead, ClientTold, stage_at}
 use Rattle.run_door_front.specs.Exchanged.{OwesAt, CameOneByOne, HeardByThen}
-use Rattle.run_door_front.specs.NextSteps.{stage_at}
 use Rattle.run_door_front.proofs.Entries.{get_cases}
-use Rattle.run_door_front.proofs.Links.{reads_not_owes, any-left}
+use Rattle.run_door_front.proofs.Links.{asks_not_owes, any-left}
 use Rattle.run_door_front.proofs.Requests.{Serves, came_some, connection_there}
 use Rattle.run_door_front.proofs.OneMore.{link_there}
 use Rattle.run_door_front.proofs.Waiting.{told_found}
@@ -116,14 +115,14 @@ heard_by-longer seens heard more before j n seen =
     let both = length-append heard more in
     omega (arith, less, both)
 
--- ---- a connection that reads
+-- ---- a connection that asks
 
 module _ (IsMade : WireTold → Type 0) (parts : ProgramParts) (leads : List Lead) (links : List ClientTold) (all : Requests) (heard : List Told)
     (s : Serves IsMade parts leads links all heard) where
   -- was told of each request of it
-  pub heard-where_reads : (k : ℕ) (link : ClientTold) → slice_get links k ≡ Some link → stage_at link ≡ Stages.Reads → (i : ℕ) (a : Asked)
+  pub heard-where_asks : (k : ℕ) (link : ClientTold) → slice_get links k ≡ Some link → stage_at link ≡ Stages.Asks → (i : ℕ) (a : Asked)
       → slice_get all.asked i ≡ Some a → a.traffic ≡ k → list_any (λ (t : Told). nat_eq i t.place) heard ≡ true
-  heard-where_reads k link is reads i a there traffic =
+  heard-where_asks k link is asking i a there traffic =
       let came = came_some s.connections all.asked all.came s.came i a there in
       let connection = connection_there s.connections all.asked all.came s.came i a there in
       elim (s.answers i a came.0 connection.0 there came.1 connection.1) [
@@ -132,5 +131,5 @@ module _ (IsMade : WireTold → Type 0) (parts : ProgramParts) (leads : List Lea
             let same : w.0.link ≡ link = same_Some w.0.link link (sym w.0.there ∙ ap (slice_get links) traffic ∙ is) in
             let here = link_there IsMade links s.connections a.traffic w.0.link w.0.there s.are in
             let stage : here.0.stage ≡ Stages.Owes = subst (λ o. OwesAt o here.0.stage) w.0.pending here.2.owes in
-            absurd (reads_not_owes (stage_at link) reads (ap stage_at (sym same) ∙ sym here.2.stage ∙ stage))
+            absurd (asks_not_owes (stage_at link) asking (ap stage_at (sym same) ∙ sym here.2.stage ∙ stage))
       ]

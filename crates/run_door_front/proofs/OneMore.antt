@@ -11,15 +11,15 @@ use Rattle.run_theorem.specs.Calls.{is_of}
 use Rattle.run_theorem.specs.Texts.{Came}
 use Rattle.run_theorem.specs.RunConnections.{RunConnection, came_with, came_at, AreTaken}
 use Rattle.run_theorem.specs.Served.{Requests}
-use Rattle.http_connection.specs.declared.stage.Stage.TheVariants as Stages
+use Rattle.conn_future.specs.declared.stage.Stage.TheVariants as Stages
 use Rattle.outside_traits.specs.Told.{WireTold}
 use Rattle.run_door_front.specs.declared.link.PendingReply.{PendingReply}
-use Rattle.run_door_front.specs.Keeping.{is_of_door, is_led, Lead, ClientTold}
+use Rattle.run_door_front.specs.Keeping.{is_of_door, is_led, Lead, ClientTold, stage_at}
 use Rattle.run_door_front.specs.Exchanged.{OwesAt, IsClient, AreClients, IsHeard, IsPending}
-use Rattle.run_door_front.specs.NextSteps.{stage_at, IsAsked, Listing, AsksOne}
+use Rattle.run_door_front.specs.NextSteps.{IsAsked, Listing, AsksOne}
 use Rattle.run_door_front.proofs.Entries.{get_last, get_cases, take_front, get_set_same, get_set_other, count_no, count_yes, count_append, nat_eq_same, nat_eq_is, nat_eq_less}
-use Rattle.run_door_front.proofs.Links.{reads_not_owes}
-use Rattle.run_door_front.proofs.Counting.{texts-where_reads}
+use Rattle.run_door_front.proofs.Links.{asks_not_owes}
+use Rattle.run_door_front.proofs.Counting.{texts-where_asks}
 use Rattle.run_door_front.proofs.Requests.{GrowsTo, Later, Heard, PendingStay, same_door, heard_later, came_made, came_length, all_came_later, Serves}
 
 -- ---- the connection and what passed on it
@@ -29,7 +29,7 @@ abbrev with_body : List ℕ → RunConnection → RunConnection
 with_body body v = record { door = v.door; service = v.service; stage = Stages.Owes; bodies = v.bodies ++ body ∷ []; texts = v.texts }
 
 module _ (IsMade : WireTold → Type 0) (place : ℕ) (body : List ℕ) where
-  asked_link : (l m : ClientTold) (v : RunConnection) → IsAsked place (Some body) l m → IsClient IsMade l v → IsClient IsMade m (with_body body v)
+  asked_link : (l m : ClientTold) (v : RunConnection) → IsAsked place body l m → IsClient IsMade l v → IsClient IsMade m (with_body body v)
   asked_link l m v a h = record {
     service = h.service ∙ sym a.service;
     door = same_door h.first l.seen m.seen v.bodies (v.bodies ++ body ∷ []) v.texts v.texts v.door h.door h.talks
@@ -45,7 +45,7 @@ module _ (IsMade : WireTold → Type 0) (place : ℕ) (body : List ℕ) where
   }
 
   asked_links : (ls : List ClientTold) (vs : List RunConnection) (k : ℕ) (l m : ClientTold) (v : RunConnection) → slice_get ls k ≡ Some l → slice_get vs k ≡ Some v
-      → IsAsked place (Some body) l m → AreClients IsMade ls vs → AreClients IsMade (slice_set ls k m) (slice_set vs k (with_body body v))
+      → IsAsked place body l m → AreClients IsMade ls vs → AreClients IsMade (slice_set ls k m) (slice_set vs k (with_body body v))
   asked_links [] vs k l m v x y a h = absurd (none-some l x)
   asked_links (i ∷ ls) [] k l m v x y a h = absurd h
   asked_links (i ∷ ls) (u ∷ vs) zero l m v x y a h =
@@ -106,8 +106,8 @@ body_later vs k v body is t u e = by_place (nat_eq k t) refl
       record { service = refl; more = []; bodies = sym (append-nil u.bodies); texts = refl },
     )
 
--- a connection that reads owes nothing, so that those that do stay
-pending_set : (IsMade : WireTold → Type 0) (ls : List ClientTold) (k : ℕ) (l m : ClientTold) (v : RunConnection) → slice_get ls k ≡ Some l → IsClient IsMade l v → stage_at l ≡ Stages.Reads
+-- a connection that asks owes nothing, so that those that do stay
+pending_set : (IsMade : WireTold → Type 0) (ls : List ClientTold) (k : ℕ) (l m : ClientTold) (v : RunConnection) → slice_get ls k ≡ Some l → IsClient IsMade l v → stage_at l ≡ Stages.Asks
     → PendingStay ls (slice_set ls k m)
 pending_set IsMade ls k l m v is h e = λ t link o x y. by_place t link o x y (nat_eq k t) refl
   where
@@ -116,7 +116,7 @@ pending_set IsMade ls k l m v is h e = λ t link o x y. by_place t link o x y (n
         let one : l ≡ link = same_Some l link (sym is ∙ ap (slice_get ls) (nat_eq_is k t same) ∙ x) in
         let owing : l.pending ≡ Some o = ap (λ (x : ClientTold). x.pending) one ∙ y in
         let stage : v.stage ≡ Stages.Owes = subst (λ o. OwesAt o v.stage) owing h.owes in
-        absurd (reads_not_owes (stage_at l) e (sym h.stage ∙ stage))
+        absurd (asks_not_owes (stage_at l) e (sym h.stage ∙ stage))
     by_place t link o x y false other = get_set_other ls k t m other ∙ x
 
 -- ---- requests
@@ -189,9 +189,9 @@ untold_next n (t ∷ heard) h =
 
 module _ (IsMade : WireTold → Type 0) (parts : ProgramParts) (leads : List Lead) (before now : Listing) (all : Requests) (heard : List Told) (number : ℕ) (body : List ℕ)
     (places : list_all (λ (t : Told). nat_lt t.place (length all.asked)) heard ≡ true) (long : length before.traffics ≡ length all.asked)
-    (one : AsksOne number (Some body) before now) (s : Serves IsMade parts leads before.links all heard) where
+    (one : AsksOne number body before now) (s : Serves IsMade parts leads before.connections all heard) where
   here : (v : RunConnection) × (slice_get s.connections number ≡ Some v) × IsClient IsMade one.link v
-  here = link_there IsMade before.links s.connections number one.link one.there s.are
+  here = link_there IsMade before.connections s.connections number one.link one.there s.are
 
   abbrev connection : RunConnection
   connection = here.0
@@ -227,16 +227,16 @@ module _ (IsMade : WireTold → Type 0) (parts : ProgramParts) (leads : List Lea
       ∙ ap₂ (λ xs ys. xs ++ ys) (all_came_later s.connections connections later all.asked all.came s.came) (ap (λ x. x ∷ []) came_now)
       ∙ sym (map-append Some all.came (brings ∷ []))
 
-  waits_now : IsPending now.links (length all.asked) whose brings (with_body body connection)
+  waits_now : IsPending now.connections (length all.asked) whose brings (with_body body connection)
   waits_now = record {
     link = one.later;
-    there = ap (λ ls. slice_get ls number) one.set ∙ get_set_same before.links number one.link one.later one.there;
+    there = ap (λ ls. slice_get ls number) one.set ∙ get_set_same before.connections number one.link one.later one.there;
     pending = one.asked.pending ∙ ap (λ n. Some (record { place = n; read = posted body })) long;
     last = number_is
-        ∙ sym (texts-where_reads here.2.first one.link.seen connection.bodies connection.texts here.2.talks one.read);
+        ∙ sym (texts-where_asks here.2.first one.link.seen connection.bodies connection.texts here.2.talks one.asking);
   }
 
-  heard_now : Heard parts now.links connections (one_more all whose brings) heard
+  heard_now : Heard parts now.connections connections (one_more all whose brings) heard
   heard_now = λ j a c w x y z. elim (get_cases all.asked whose j a x) [
     | inl old ↦ elim (get_cases all.came brings j c y) [
       | inl came ↦ old_heard j a c w old came z
@@ -262,33 +262,33 @@ module _ (IsMade : WireTold → Type 0) (parts : ProgramParts) (leads : List Lea
       clash_came : (j : ℕ) (c : Came) → slice_get all.came j ≡ Some c → j ≡ length all.asked → ⊥
       clash_came j c e is = let h = within all.came j c e in let n = counts in omega arith
 
-      old_all : Heard parts (slice_set before.links number one.later) connections all heard
+      old_all : Heard parts (slice_set before.connections number one.later) connections all heard
       old_all =
-          heard_later parts before.links (slice_set before.links number one.later) s.connections connections all heard later
-          (pending_set IsMade before.links number one.link one.later connection one.there here.2 one.read) s.came s.answers
+          heard_later parts before.connections (slice_set before.connections number one.later) s.connections connections all heard later
+          (pending_set IsMade before.connections number one.link one.later connection one.there here.2 one.asking) s.came s.answers
 
       old_heard : (j : ℕ) (a : Asked) (c : Came) (w : RunConnection) → slice_get all.asked j ≡ Some a → slice_get all.came j ≡ Some c → slice_get connections a.traffic ≡ Some w
-          → IsHeard parts heard j c (slice_get w.texts a.request) ⊎ (IsPending now.links j a c w × (list_any (λ (t : Told). nat_eq j t.place) heard ≡ false))
+          → IsHeard parts heard j c (slice_get w.texts a.request) ⊎ (IsPending now.connections j a c w × (list_any (λ (t : Told). nat_eq j t.place) heard ≡ false))
       old_heard = subst (λ ls. Heard parts ls connections all heard) (sym one.set) old_all
 
       new_heard : (j : ℕ) (a : Asked) (c : Came) (w : RunConnection) → (j ≡ length all.asked) × (whose ≡ a) → (j ≡ length all.came) × (brings ≡ c)
-          → slice_get connections a.traffic ≡ Some w → IsPending now.links j a c w × (list_any (λ (t : Told). nat_eq j t.place) heard ≡ false)
+          → slice_get connections a.traffic ≡ Some w → IsPending now.connections j a c w × (list_any (λ (t : Told). nat_eq j t.place) heard ≡ false)
       new_heard j a c w x y z =
           let there : with_body body connection ≡ w =
           same_Some (with_body body connection) w
           (sym (get_set_same s.connections number connection (with_body body connection) here.1) ∙ ap (λ (b : Asked). slice_get connections b.traffic) x.1 ∙ z) in (
-            subst (λ i. IsPending now.links i a c w) (sym x.0)
-                (subst (λ b. IsPending now.links (length all.asked) b c w) x.1
-                (subst (λ d. IsPending now.links (length all.asked) whose d w) y.1
-                (subst (IsPending now.links (length all.asked) whose brings) there waits_now))),
+            subst (λ i. IsPending now.connections i a c w) (sym x.0)
+                (subst (λ b. IsPending now.connections (length all.asked) b c w) x.1
+                (subst (λ d. IsPending now.connections (length all.asked) whose d w) y.1
+                (subst (IsPending now.connections (length all.asked) whose brings) there waits_now))),
             ap (λ i. list_any (λ (t : Told). nat_eq i t.place) heard) x.0 ∙ untold_next (length all.asked) heard places,
           )
 
-  pub serves-more : Serves IsMade parts leads now.links (one_more all whose brings) heard
+  pub serves-more : Serves IsMade parts leads now.connections (one_more all whose brings) heard
   serves-more = record {
     connections = connections;
     are = subst (λ ls. AreClients IsMade ls connections) (sym one.set)
-        (asked_links IsMade (length before.traffics) body before.links s.connections number one.link one.later connection one.there here.1 one.asked s.are);
+        (asked_links IsMade (length before.traffics) body before.connections s.connections number one.link one.later connection one.there here.1 one.asked s.are);
     doors = all_set (λ (v : RunConnection). list_any (is_led v.door v.service) leads) s.connections number connection (with_body body connection) here.1 refl s.doors;
     taken = taken_more s.connections all.asked number connection body here.1 s.taken;
     came = all_came;

@@ -13,13 +13,12 @@ use Rattle.run_theorem.specs.Calls.{IsDue}
 use Rattle.run_theorem.specs.Texts.{posting_of}
 use Rattle.run_theorem.specs.RunConnections.{came_at}
 use Rattle.jsonrpc_postings.specs.Told.{came_for, response_told}
-use Rattle.http_connection.specs.declared.stage.Stage.{Stage}
-use Rattle.http_connection.specs.declared.stage.Stage.TheVariants as Stages
+use Rattle.conn_future.specs.declared.stage.Stage.{Stage}
+use Rattle.conn_future.specs.declared.stage.Stage.TheVariants as Stages
 use Rattle.run_door_front.specs.declared.link.PendingReply.{PendingReply}
-use Rattle.run_door_front.specs.Keeping.{ClientTold, Keeping}
+use Rattle.run_door_front.specs.Keeping.{ClientTold, Keeping, stage_at, owes_at}
 use Rattle.run_door_front.specs.Exchanged.{Sides, sides_of, OwesAt, HasExchanged}
-use Rattle.run_door_front.specs.NextSteps.{stage_at}
-use Rattle.run_door_front.specs.AnswerSteps.{owes_at, is_pending, owes, awaited_at, awaited_by, awaited, Awaits, told_of, IsTextOf, TellsText, HasTold}
+use Rattle.run_door_front.specs.AnswerSteps.{is_pending, owes, awaited_at, awaited_by, awaited, Awaits, told_of, IsTextOf, TellsText, HasTold}
 use Rattle.run_door_front.proofs.Changing.{slice_get-mapped}
 use Rattle.run_door_front.proofs.Entries.{nat_eq_same, nat_eq_is}
 use Rattle.run_door_front.proofs.Links.{any-left}
@@ -31,7 +30,9 @@ use Rattle.run_door_front.proofs.Waiting.{told_found}
 
 owing_stage : (s : Stage) → owes_at s ≡ true → s ≡ Stages.Owes
 owing_stage Stages.Reads e = absurd (true≢false (sym e))
+owing_stage Stages.Asks e = absurd (true≢false (sym e))
 owing_stage Stages.Owes e = refl
+owing_stage Stages.Writes e = absurd (true≢false (sym e))
 owing_stage Stages.Ended e = absurd (true≢false (sym e))
 owing_stage Stages.Closed e = absurd (true≢false (sym e))
 owing_stage Stages.ReadFailed e = absurd (true≢false (sym e))
@@ -62,16 +63,16 @@ text_is (Ok text) parts place outcomes link pending is owing sent = record {
 text_is (Err e) parts place outcomes link pending is owing sent = tt
 
 -- it is told that text
-pub client_told : {T E : Type 0} (r : Result T E) (parts : ProgramParts) (t : Told) (text : Option (List ℕ)) (before now : ClientTold) → IsTextOf parts t before text
-    → IfOk r (λ _. TellsText text before.seen now.seen) → now.pending ≡ None → now.service ≡ before.service → IfOk r (λ _. HasTold parts t before now)
-client_told (Ok v) parts t text before now of_place tells paid service = record {
+pub client_told : (parts : ProgramParts) (t : Told) (text : Option (List ℕ)) (before now : ClientTold) → IsTextOf parts t before text
+    → TellsText text before.seen now.seen → now.pending ≡ None → now.service ≡ before.service → now.waits ≡ before.waits → HasTold parts t before now
+client_told parts t text before now of_place tells paid service waits = record {
   text = text;
   of_place = of_place;
   tells = tells;
   paid = paid;
   service = service;
+  waits = waits;
 }
-client_told (Err e) parts t text before now of_place tells paid service = tt
 
 -- ---- which connection that is
 
@@ -141,11 +142,11 @@ module _ (IsMade : WireTold → Type 0) (parts : ProgramParts) (first : Sides) (
             absurd (true≢false (sym told ∙ due.untold))
         | inr waits ↦
             let link = waits.0.link in
-            let here = link_there IsMade old.links h.connections asked.0.traffic link waits.0.there h.links in
+            let here = link_there IsMade old.connections h.connections asked.0.traffic link waits.0.there h.clients in
             let stage : here.0.stage ≡ Stages.Owes = subst (λ o. OwesAt o here.0.stage) waits.0.pending here.2.owes in
             let traffic : slice_get old.traffics place ≡ Some asked.0.traffic =
             ap (λ l. slice_get l place) (sym h.traffics) ∙ slice_get-mapped (λ (x : Asked). x.traffic) h.all.asked place asked.0 asked.1 in
             let owing : owes place link ≡ true =
             and_from (owes_at (stage_at link)) (is_pending place link.pending) (ap owes_at (sym here.2.stage ∙ stage)) (ap (is_pending place) waits.0.pending ∙ nat_eq_same place) in
-            (asked.0.traffic, awaits_so place asked.0.traffic old.links old.traffics link traffic waits.0.there owing)
+            (asked.0.traffic, awaits_so place asked.0.traffic old.connections old.traffics link traffic waits.0.there owing)
       ]

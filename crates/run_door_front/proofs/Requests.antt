@@ -1,7 +1,6 @@
 -- What was asked of the connections and received in, as they go on and as one request more comes.
 use Rattle.std.proofs.Common.{◌≡◌, refl, sym, ap, ap₂, ◌∙◌, subst, arith, ℕ, zero, suc, ◌<◌, ◌≤◌, Bool, true, false, ◌⊎◌, inl, inr, List, [], ◌∷◌, ◌++◌, length, map, Option, None, Some, option_map, count_by, slice_get, nat_eq, append-nil}
-use Rattle.http_connection.specs.Talking.{IsTalking}
-use Rattle.http_connection.specs.Seen.{Seen}
+use Rattle.conn_future.specs.Talking.{Seen, IsTalking}
 use Rattle.std.specs.Option.{option_and_then}
 use Rattle.std.specs.List.{list_all, list_any}
 use Rattle.std.proofs.lemmas.Bool.{and_parts, and_from}
@@ -13,16 +12,14 @@ use Rattle.run_theorem.specs.Calls.{is_of}
 use Rattle.run_theorem.specs.Texts.{Came}
 use Rattle.run_theorem.specs.RunConnections.{RunConnection, came_with, came_of, came_at, AreTaken}
 use Rattle.run_theorem.specs.Served.{Requests}
-use Rattle.http_connection.specs.declared.stage.Stage.{Stage}
-use Rattle.http_connection.specs.declared.stage.Stage.TheVariants as Stages
-use Rattle.http_connection.specs.Stages.{IsOver}
+use Rattle.conn_future.specs.declared.stage.Stage.{Stage}
+use Rattle.conn_future.specs.declared.stage.Stage.TheVariants as Stages
 use Rattle.outside_traits.specs.Told.{WireTold}
 use Rattle.run_door_front.specs.declared.link.PendingReply.{PendingReply}
-use Rattle.run_door_front.specs.Keeping.{is_led, Lead, ClientTold}
+use Rattle.run_door_front.specs.Keeping.{is_led, Lead, ClientTold, stage_at}
 use Rattle.run_door_front.specs.Exchanged.{OwesAt, IsClient, AreClients, IsHeard, IsPending}
-use Rattle.run_door_front.specs.NextSteps.{stage_at, IsNewClient, ClientGoesOn, LinksGoOn}
+use Rattle.run_door_front.specs.NextSteps.{IsNewClient, ClientGoesOn, LinksGoOn}
 use Rattle.run_door_front.proofs.Entries.{get_front, count_no, nat_eq_less}
-use Rattle.run_door_front.proofs.Links.{reads_not_owes, over_not_owes, over_not_spent}
 
 -- ---- connections grow
 
@@ -160,7 +157,7 @@ heard_later parts ls ms vs ws all heard later stay came h = λ j a c w x y z.
 -- a connection whose wire was the same before tells the same door
 pub same_door : (first : WireTold) (before now : Seen) (bodies later : List (List ℕ)) (texts more : List (Option (List ℕ))) (door : Option ℕ)
     → door ≡ before.line.door → IsTalking first before bodies texts → IsTalking first now later more → door ≡ now.line.door
-same_door first before now bodies later texts more door is was talks = is ∙ was.door ∙ sym talks.door
+same_door first before now bodies later texts more door is was talks = is ∙ was.talks.door ∙ sym talks.talks.door
 
 -- What was asked of these connections, of which each came at one of these doors and leads to its service, and what was
 -- told to them.
@@ -195,33 +192,32 @@ module _ (IsMade : WireTold → Type 0) where
     service = refl;
     door = refl;
     stage = refl;
-    memory = elim g.stage [ inl e ↦ (λ s. (let clash : Stages.Reads ≡ Stages.Spent = sym e ∙ s in cc)) | inr o ↦ (λ s. over_not_spent (stage_at m) o s) ];
-    owes = subst (λ o. OwesAt o (stage_at m)) (sym g.pending)
-        (elim g.stage [ inl e ↦ (λ s. reads_not_owes (stage_at m) e s) | inr o ↦ (λ s. over_not_owes (stage_at m) o s) ]);
+    memory = g.memory;
+    owes = subst (λ o. OwesAt o (stage_at m)) (sym g.pending) g.unowed;
     first = g.first;
     made = g.made;
     fresh = g.fresh;
     talks = g.talks;
-    ended = g.ended;
+    ended = g.talks.ended g.fresh.is_open;
   }
 
   -- whether an answer is pending stays
-  owes_on : (o : Option PendingReply) (s t : Stage) → (t ≡ s) ⊎ ((s ≡ Stages.Reads) × IsOver t) → OwesAt o s → OwesAt o t
-  owes_on None s t h k = λ e. elim h [ inl same ↦ k (sym same ∙ e) | inr over ↦ over_not_owes t over.1 e ]
-  owes_on (Some o) s t h k = elim h [ inl same ↦ same ∙ k | inr over ↦ absurd (reads_not_owes s over.0 k) ]
+  owes_on : (o : Option PendingReply) (l m : ClientTold) → ClientGoesOn l m → OwesAt o (stage_at l) → OwesAt o (stage_at m)
+  owes_on None l m g k = λ e. k (g.unowed e)
+  owes_on (Some o) l m g k = ap stage_at (g.rests (inl (inr k))) ∙ k
 
   on_link : (l m : ClientTold) (v : RunConnection) → ClientGoesOn l m → IsClient IsMade l v → IsClient IsMade m (connection_on v m)
   on_link l m v g h = record {
     service = h.service ∙ sym g.service;
     door = same_door h.first l.seen m.seen v.bodies v.bodies v.texts v.texts v.door h.door h.talks (g.talks h.first v.bodies v.texts h.talks);
     stage = refl;
-    memory = λ e. elim g.stage [ inl same ↦ h.memory (h.stage ∙ sym same ∙ e) | inr over ↦ over_not_spent (stage_at m) over.1 e ];
-    owes = subst (λ o. OwesAt o (stage_at m)) (sym g.pending) (owes_on l.pending (stage_at l) (stage_at m) g.stage (subst (OwesAt l.pending) h.stage h.owes));
+    memory = λ e. h.memory (h.stage ∙ g.memory e);
+    owes = subst (λ o. OwesAt o (stage_at m)) (sym g.pending) (owes_on l.pending l m g (subst (OwesAt l.pending) h.stage h.owes));
     first = h.first;
     made = h.made;
     fresh = h.fresh;
     talks = g.talks h.first v.bodies v.texts h.talks;
-    ended = g.ended h.first v.bodies v.texts h.talks h.fresh.is_open (λ e. h.ended (h.stage ∙ e));
+    ended = (g.talks h.first v.bodies v.texts h.talks).ended h.fresh.is_open;
   }
 
   module _ (leads : List Lead) where
@@ -285,7 +281,7 @@ module _ (IsMade : WireTold → Type 0) where
     pending_on (l ∷ ls) (m ∷ ms) (v ∷ vs) h g zero link o e is =
         let owing : l.pending ≡ Some o = ap (λ (x : ClientTold). x.pending) (same_Some l link e) ∙ is in
         let stage : v.stage ≡ Stages.Owes = subst (λ x. OwesAt x v.stage) owing h.0.owes in
-        ap Some (g.0.owes (sym h.0.stage ∙ stage)) ∙ e
+        ap Some (g.0.rests (inl (inr (sym h.0.stage ∙ stage)))) ∙ e
     pending_on (l ∷ ls) (m ∷ ms) (v ∷ vs) h g (suc k) link o e is = pending_on ls ms vs h.1 g.1 k link o e is
 
     -- all of it goes on

@@ -1,4 +1,4 @@
--- Doors behind a rest at the first of them that has not ended.
+-- Doors after a rest.
 use Rattle.std.proofs.Common.{◌≡◌, refl, sym, ap, ◌∙◌, subst, arith, ℕ, zero, suc, ◌+◌, ◌-◌, ◌^◌, ◌<◌, ◌≤◌, min, Bool, true, false, cond, ◌&&◌, List, [], ◌∷◌, length, take, set, get_or}
 use Rattle.std.specs.List.{list_all, sum_by}
 use Rattle.std.proofs.lemmas.Bool.{and_parts, and_from, true≢false}
@@ -6,7 +6,7 @@ use Rattle.std.proofs.lemmas.List.{take_all}
 use Rattle.std.proofs.lemmas.List.Sums.{sum_by-cons}
 use Rattle.outside_doors.specs.Counts.{added, has_ended}
 use Rattle.run_door_front.specs.Keeping.{ListenerTold, rests_at}
-use Rattle.run_door_front.specs.NextSteps.{GoesOn, AllGoOn, AreTried, rested_at, after_rest}
+use Rattle.run_door_front.specs.NextSteps.{GoesOn, AllGoOn, AreTried, rested_at, rested_first, rested_open, after_rest}
 use Rattle.run_door_front.proofs.Doors.{not_fallen-same, not_fallen-added, goes-same, all-same}
 
 -- a door has ended
@@ -20,44 +20,45 @@ goes_rested p = record {
   service = refl;
   place = refl;
   ended = λ e. e;
+  untried = λ e. refl;
   waits = not_fallen-same p.door.waits p.door.waits refl;
   rests = not_fallen-added p.door.rests (added p.door.rests 1) refl;
 }
 
-pub all-rested : (ps : List ListenerTold) → AllGoOn ps (after_rest ps)
-all-rested [] = tt
-all-rested (p ∷ ps) = at (has_ended p.door) (all-rested ps)
+all_rested_open : (ps : List ListenerTold) → AllGoOn ps (rested_open ps)
+all_rested_open [] = tt
+all_rested_open (p ∷ ps) = at (has_ended p.door) (all_rested_open ps)
   where
-    at : (b : Bool) → AllGoOn ps (after_rest ps) → AllGoOn (p ∷ ps) (cond b (p ∷ after_rest ps) (rested_at p ∷ ps))
+    at : (b : Bool) → AllGoOn ps (rested_open ps) → AllGoOn (p ∷ ps) (cond b (p ∷ rested_open ps) (rested_at p ∷ ps))
     at true rest = (goes-same p, rest)
     at false rest = (goes_rested p, all-same ps)
 
 -- those that were tried are
-pub tried-rested : (xs ps : List ListenerTold) → AreTried xs ps → AreTried xs (after_rest ps)
-tried-rested [] [] t = tt
-tried-rested [] (p ∷ ps) t = absurd t
-tried-rested (x ∷ xs) [] t = absurd t
-tried-rested (x ∷ xs) (p ∷ ps) t = at (has_ended p.door) (tried-rested xs ps t.1)
+tried_rested_open : (xs ps : List ListenerTold) → AreTried xs ps → AreTried xs (rested_open ps)
+tried_rested_open [] [] t = tt
+tried_rested_open [] (p ∷ ps) t = absurd t
+tried_rested_open (x ∷ xs) [] t = absurd t
+tried_rested_open (x ∷ xs) (p ∷ ps) t = at (has_ended p.door) (tried_rested_open xs ps t.1)
   where
-    at : (b : Bool) → AreTried xs (after_rest ps) → AreTried (x ∷ xs) (cond b (p ∷ after_rest ps) (rested_at p ∷ ps))
+    at : (b : Bool) → AreTried xs (rested_open ps) → AreTried (x ∷ xs) (cond b (p ∷ rested_open ps) (rested_at p ∷ ps))
     at true rest = (t.0, rest)
     at false rest = (t.0, t.1)
 
 -- what does not speak of rests stays
-pub sums-rested : (f : ListenerTold → ℕ) → ((p : ListenerTold) → f (rested_at p) ≡ f p) → (ps : List ListenerTold) → sum_by f (after_rest ps) ≡ sum_by f ps
-sums-rested f same [] = refl
-sums-rested f same (p ∷ ps) = at (has_ended p.door) (sums-rested f same ps)
+sums_rested_open : (f : ListenerTold → ℕ) → ((p : ListenerTold) → f (rested_at p) ≡ f p) → (ps : List ListenerTold) → sum_by f (rested_open ps) ≡ sum_by f ps
+sums_rested_open f same [] = refl
+sums_rested_open f same (p ∷ ps) = at (has_ended p.door) (sums_rested_open f same ps)
   where
-    at : (b : Bool) → sum_by f (after_rest ps) ≡ sum_by f ps → sum_by f (cond b (p ∷ after_rest ps) (rested_at p ∷ ps)) ≡ sum_by f (p ∷ ps)
-    at true e = sum_by-cons f p (after_rest ps) ∙ ap (λ n. f p + n) e ∙ sym (sum_by-cons f p ps)
+    at : (b : Bool) → sum_by f (rested_open ps) ≡ sum_by f ps → sum_by f (cond b (p ∷ rested_open ps) (rested_at p ∷ ps)) ≡ sum_by f (p ∷ ps)
+    at true e = sum_by-cons f p (rested_open ps) ∙ ap (λ n. f p + n) e ∙ sym (sum_by-cons f p ps)
     at false e = sum_by-cons f (rested_at p) ps ∙ ap (λ n. n + sum_by f ps) (same p) ∙ sym (sum_by-cons f p ps)
 
-pub done-rested : (ps : List ListenerTold) → list_all is_done (after_rest ps) ≡ list_all is_done ps
-done-rested [] = refl
-done-rested (p ∷ ps) = at (has_ended p.door) (done-rested ps)
+done_rested_open : (ps : List ListenerTold) → list_all is_done (rested_open ps) ≡ list_all is_done ps
+done_rested_open [] = refl
+done_rested_open (p ∷ ps) = at (has_ended p.door) (done_rested_open ps)
   where
-    at : (b : Bool) → list_all is_done (after_rest ps) ≡ list_all is_done ps
-        → list_all is_done (cond b (p ∷ after_rest ps) (rested_at p ∷ ps)) ≡ list_all is_done (p ∷ ps)
+    at : (b : Bool) → list_all is_done (rested_open ps) ≡ list_all is_done ps
+        → list_all is_done (cond b (p ∷ rested_open ps) (rested_at p ∷ ps)) ≡ list_all is_done (p ∷ ps)
     at true e = ap (λ b. is_done p && b) e
     at false e = refl
 
@@ -71,15 +72,15 @@ more_here : (r s t m n cap : ℕ) → m ≡ r + s → n ≡ t + s → t ≡ min 
 more_here r s t m n cap a b e = omega arith
 
 -- once more, where one has not ended
-pub rests-rested : (ps : List ListenerTold) → list_all is_done ps ≡ false → added (rests_at ps) 1 ≤ rests_at (after_rest ps)
-rests-rested [] some = absurd (true≢false some)
-rests-rested (p ∷ ps) some = at (has_ended p.door) refl (λ rest. rests-rested ps rest)
+rests_rested_open : (ps : List ListenerTold) → list_all is_done ps ≡ false → added (rests_at ps) 1 ≤ rests_at (rested_open ps)
+rests_rested_open [] some = absurd (true≢false some)
+rests_rested_open (p ∷ ps) some = at (has_ended p.door) refl (λ rest. rests_rested_open ps rest)
   where
-    at : (b : Bool) → has_ended p.door ≡ b → (list_all is_done ps ≡ false → added (rests_at ps) 1 ≤ rests_at (after_rest ps))
-        → added (rests_at (p ∷ ps)) 1 ≤ rests_at (cond b (p ∷ after_rest ps) (rested_at p ∷ ps))
+    at : (b : Bool) → has_ended p.door ≡ b → (list_all is_done ps ≡ false → added (rests_at ps) 1 ≤ rests_at (rested_open ps))
+        → added (rests_at (p ∷ ps)) 1 ≤ rests_at (cond b (p ∷ rested_open ps) (rested_at p ∷ ps))
     at true is rest =
-        more_behind p.door.rests (rests_at ps) (rests_at (after_rest ps)) (rests_at (p ∷ ps)) (rests_at (p ∷ after_rest ps)) (2 ^ 64 - 1)
-        (sum_by-cons (λ (p : ListenerTold). p.door.rests) p ps) (sum_by-cons (λ (p : ListenerTold). p.door.rests) p (after_rest ps))
+        more_behind p.door.rests (rests_at ps) (rests_at (rested_open ps)) (rests_at (p ∷ ps)) (rests_at (p ∷ rested_open ps)) (2 ^ 64 - 1)
+        (sum_by-cons (λ (p : ListenerTold). p.door.rests) p ps) (sum_by-cons (λ (p : ListenerTold). p.door.rests) p (rested_open ps))
         (rest (ap (λ b. b && list_all is_done ps) (sym is) ∙ some))
     at false is rest =
         more_here p.door.rests (rests_at ps) (added p.door.rests 1) (rests_at (p ∷ ps)) (rests_at (rested_at p ∷ ps)) (2 ^ 64 - 1)
@@ -112,27 +113,89 @@ done-next ps qs i d same inside all here =
 
 -- the first has not
 rested_here : (ps : List ListenerTold) (i : ℕ) (d : ListenerTold) → i < length ps → list_all is_done (take i ps) ≡ true → is_done (get_or ps i d) ≡ false
-    → set ps i (rested_at (get_or ps i d)) ≡ after_rest ps
+    → set ps i (rested_at (get_or ps i d)) ≡ rested_open ps
 rested_here [] i d inside all here = absurd (none_inside i inside)
-rested_here (p ∷ ps) zero d inside all here = ap (λ b. cond b (p ∷ after_rest ps) (rested_at p ∷ ps)) (sym here)
+rested_here (p ∷ ps) zero d inside all here = ap (λ b. cond b (p ∷ rested_open ps) (rested_at p ∷ ps)) (sym here)
 rested_here (p ∷ ps) (suc i) d inside all here =
     let both = and_parts (is_done p) (list_all is_done (take i ps)) all in
     ap (λ xs. p ∷ xs) (rested_here ps i d (lower i (length ps) inside) both.1 here)
-    ∙ ap (λ b. cond b (p ∷ after_rest ps) (rested_at p ∷ ps)) (sym both.0)
+    ∙ ap (λ b. cond b (p ∷ rested_open ps) (rested_at p ∷ ps)) (sym both.0)
 
 pub rested-here : (ps qs : List ListenerTold) (i : ℕ) (d now : ListenerTold) → qs ≡ ps → i < length ps → list_all is_done (take i ps) ≡ true
-    → is_done (get_or qs i d) ≡ false → now ≡ rested_at (get_or qs i d) → set qs i now ≡ after_rest ps
+    → is_done (get_or qs i d) ≡ false → now ≡ rested_at (get_or qs i d) → set qs i now ≡ rested_open ps
 rested-here ps qs i d now same inside all here is =
     ap (set qs i) is ∙ ap (λ xs. set xs i (rested_at (get_or xs i d))) same
     ∙ rested_here ps i d inside all (ap (λ xs. is_done (get_or xs i d)) (sym same) ∙ here)
 
 -- all have
-rested_nowhere : (ps : List ListenerTold) → list_all is_done ps ≡ true → ps ≡ after_rest ps
+rested_nowhere : (ps : List ListenerTold) → list_all is_done ps ≡ true → ps ≡ rested_open ps
 rested_nowhere [] all = refl
 rested_nowhere (p ∷ ps) all =
     let both = and_parts (is_done p) (list_all is_done ps) all in
-    ap (λ xs. p ∷ xs) (rested_nowhere ps both.1) ∙ ap (λ b. cond b (p ∷ after_rest ps) (rested_at p ∷ ps)) (sym both.0)
+    ap (λ xs. p ∷ xs) (rested_nowhere ps both.1) ∙ ap (λ b. cond b (p ∷ rested_open ps) (rested_at p ∷ ps)) (sym both.0)
 
-pub rested-nowhere : (ps qs : List ListenerTold) (i : ℕ) → qs ≡ ps → length ps ≤ i → list_all is_done (take i ps) ≡ true → qs ≡ after_rest ps
+pub rested-nowhere : (ps qs : List ListenerTold) (i : ℕ) → qs ≡ ps → length ps ≤ i → list_all is_done (take i ps) ≡ true → qs ≡ rested_open ps
 rested-nowhere ps qs i same past all =
     same ∙ rested_nowhere ps (ap (list_all is_done) (sym (take_all i ps past)) ∙ all)
+
+-- ---- at the first that has not ended, or else at the first of all
+
+all_first : (ps : List ListenerTold) → AllGoOn ps (rested_first ps)
+all_first [] = tt
+all_first (p ∷ ps) = (goes_rested p, all-same ps)
+
+pub all-rested : (ps : List ListenerTold) → AllGoOn ps (after_rest ps)
+all-rested ps = at (list_all is_done ps)
+  where
+    at : (b : Bool) → AllGoOn ps (cond b (rested_first ps) (rested_open ps))
+    at true = all_first ps
+    at false = all_rested_open ps
+
+tried_first : (xs ps : List ListenerTold) → AreTried xs ps → AreTried xs (rested_first ps)
+tried_first [] [] t = tt
+tried_first [] (p ∷ ps) t = absurd t
+tried_first (x ∷ xs) [] t = absurd t
+tried_first (x ∷ xs) (p ∷ ps) t = (t.0, t.1)
+
+pub tried-rested : (xs ps : List ListenerTold) → AreTried xs ps → AreTried xs (after_rest ps)
+tried-rested xs ps t = at (list_all is_done ps)
+  where
+    at : (b : Bool) → AreTried xs (cond b (rested_first ps) (rested_open ps))
+    at true = tried_first xs ps t
+    at false = tried_rested_open xs ps t
+
+sums_first : (f : ListenerTold → ℕ) → ((p : ListenerTold) → f (rested_at p) ≡ f p) → (ps : List ListenerTold) → sum_by f (rested_first ps) ≡ sum_by f ps
+sums_first f same [] = refl
+sums_first f same (p ∷ ps) = sum_by-cons f (rested_at p) ps ∙ ap (λ n. n + sum_by f ps) (same p) ∙ sym (sum_by-cons f p ps)
+
+pub sums-rested : (f : ListenerTold → ℕ) → ((p : ListenerTold) → f (rested_at p) ≡ f p) → (ps : List ListenerTold) → sum_by f (after_rest ps) ≡ sum_by f ps
+sums-rested f same ps = at (list_all is_done ps)
+  where
+    at : (b : Bool) → sum_by f (cond b (rested_first ps) (rested_open ps)) ≡ sum_by f ps
+    at true = sums_first f same ps
+    at false = sums_rested_open f same ps
+
+done_first : (ps : List ListenerTold) → list_all is_done (rested_first ps) ≡ list_all is_done ps
+done_first [] = refl
+done_first (p ∷ ps) = refl
+
+pub done-rested : (ps : List ListenerTold) → list_all is_done (after_rest ps) ≡ list_all is_done ps
+done-rested ps = at (list_all is_done ps)
+  where
+    at : (b : Bool) → list_all is_done (cond b (rested_first ps) (rested_open ps)) ≡ list_all is_done ps
+    at true = done_first ps
+    at false = done_rested_open ps
+
+-- once more, where there is a door
+rests_first : (ps : List ListenerTold) → 0 < length ps → added (rests_at ps) 1 ≤ rests_at (rested_first ps)
+rests_first [] some = absurd (none_inside 0 some)
+rests_first (p ∷ ps) some =
+    more_here p.door.rests (rests_at ps) (added p.door.rests 1) (rests_at (p ∷ ps)) (rests_at (rested_at p ∷ ps)) (2 ^ 64 - 1)
+    (sum_by-cons (λ (p : ListenerTold). p.door.rests) p ps) (sum_by-cons (λ (p : ListenerTold). p.door.rests) (rested_at p) ps) refl
+
+pub rests-rested : (ps : List ListenerTold) → 0 < length ps → added (rests_at ps) 1 ≤ rests_at (after_rest ps)
+rests-rested ps some = at (list_all is_done ps) refl
+  where
+    at : (b : Bool) → list_all is_done ps ≡ b → added (rests_at ps) 1 ≤ rests_at (cond b (rested_first ps) (rested_open ps))
+    at true is = rests_first ps some
+    at false is = rests_rested_open ps is

@@ -21,42 +21,23 @@ use Rattle.run_theorem.specs.Texts.{Came}
 use Rattle.run_theorem.specs.Lines.{IsPrefix}
 use Rattle.jsonrpc_postings.specs.Told.{came_for, response_told}
 use Rattle.run_theorem.specs.RunConnections.{RunConnection, came_with, came_of, came_at, AreTaken}
-use Rattle.http_connection.specs.declared.stage.Stage.{Stage}
-use Rattle.http_connection.specs.declared.stage.Stage.TheVariants as Stages
-use Rattle.http_connection.specs.Stages.{stage_of, IsBehindTelling, IsOver}
+use Rattle.conn_future.specs.declared.stage.Stage.{Stage}
+use Rattle.conn_future.specs.declared.stage.Stage.TheVariants as Stages
+use Rattle.conn_future.specs.Stages.{stage_of, IsOver}
 use Rattle.outside_traits.specs.Told.{WireTold}
 use Rattle.run_door_front.specs.declared.link.PendingReply.{PendingReply}
 use Rattle.run_door_front.specs.Keeping.{is_led, leads_of, lead_of, ListenerTold, ClientTold, Keeping, AreNew, IsEmpty, services_of, rests_at, no_more, leads_to, AreLed}
 use Rattle.outside_traits.specs.Told.{SinkTold}
 use Rattle.outside_writing.specs.Sinks.{Takes}
-use Rattle.run_door_front.specs.Exchanged.{Sides, sides_of, OwesAt, IsClient, AreClients, IsHeard, IsPending, AreHeard, HadNoAnswer, CameInTurn, WasBusy, WereBusy, HaveWaited, HadNone, most_open, entire, HasExchanged, HasRunOut, MayHaveExchanged}
+use Rattle.run_door_front.specs.Exchanged.{Sides, sides_of, OwesAt, IsClient, AreClients, IsHeard, IsPending, AreHeard, HadNoAnswer, Pause, for_answer, for_wire, at_end, is_for_answer, WasPaused, WerePaused, waits_at, HadNone, most_open, entire, HasExchanged, HasRunOut, MayHaveExchanged}
 use Rattle.run_door_front.specs.AnswerSteps.{told_of, Awaits, HasTold, HasAnswered}
 use Rattle.run_door_front.proofs.Changing.{eq_true, eq_false, not_eq, same_of, none_not_some, set_here, set_other, set_cases, list_all-set, slice_get-front, slice_get-last, map_alike, slice_get-mapped}
 use Rattle.run_door_front.proofs.Leading.{led-set, led-new}
 use Rattle.run_door_front.proofs.Owing.{given_before, due_awaits}
 use Rattle.run_door_front.proofs.OneByOne.{one_by_one-longer, heard_by-longer}
-use Rattle.run_door_front.proofs.InTurn.{seen_within, in_turn-told, over_set, asked_within, in_turn-on}
 use Rattle.run_door_front.proofs.Notes.{halts_still, halts_unknown, NotesSo, sent_told, sent_cut, sent_noted}
 
 -- ---- stages
-
--- behind an answer memory has not run out
-not_spent : (stage : Stage) → IsBehindTelling stage → stage ≢ Stages.Spent
-not_spent stage (inl reads) is = let clash : Stages.Reads ≡ Stages.Spent = sym reads ∙ is in cc
-not_spent stage (inr (inl closed)) is = let clash : Stages.Closed ≡ Stages.Spent = sym closed ∙ is in cc
-not_spent stage (inr (inr cut)) is = let clash : Stages.WriteFailed ≡ Stages.Spent = sym cut ∙ is in cc
-
--- nor is an answer pending
-not_owing : (stage : Stage) → IsBehindTelling stage → stage ≢ Stages.Owes
-not_owing stage (inl reads) is = let clash : Stages.Reads ≡ Stages.Owes = sym reads ∙ is in cc
-not_owing stage (inr (inl closed)) is = let clash : Stages.Closed ≡ Stages.Owes = sym closed ∙ is in cc
-not_owing stage (inr (inr cut)) is = let clash : Stages.WriteFailed ≡ Stages.Owes = sym cut ∙ is in cc
-
--- nor does the connection stand as ended
-not_ended : (stage : Stage) → IsBehindTelling stage → stage ≢ Stages.Ended
-not_ended stage (inl reads) is = let clash : Stages.Reads ≡ Stages.Ended = sym reads ∙ is in cc
-not_ended stage (inr (inl closed)) is = let clash : Stages.Closed ≡ Stages.Ended = sym closed ∙ is in cc
-not_ended stage (inr (inr cut)) is = let clash : Stages.WriteFailed ≡ Stages.Ended = sym cut ∙ is in cc
 
 -- a connection that owes an answer is not over
 not_over : (stage : Stage) → stage ≡ Stages.Owes → IsOver stage → ⊥
@@ -102,13 +83,13 @@ link_told IsMade parts t l after v a h = record {
   door = same_door h.first l.seen after.seen v.bodies v.bodies v.texts (v.texts ++ a.text ∷ []) v.door h.door h.talks
       (a.tells.talks h.first v.bodies v.texts h.talks);
   stage = refl;
-  memory = not_spent (stage_of after.seen.kept.next) a.tells.behind;
-  owes = subst (λ o. OwesAt o (stage_of after.seen.kept.next)) (sym a.paid) (not_owing (stage_of after.seen.kept.next) a.tells.behind);
+  memory = λ e. (let clash : Stages.Writes ≡ Stages.Spent = sym a.tells.writes ∙ e in cc);
+  owes = subst (λ o. OwesAt o (stage_of after.seen.kept.next)) (sym a.paid) (λ e. (let clash : Stages.Writes ≡ Stages.Owes = sym a.tells.writes ∙ e in cc));
   first = h.first;
   made = h.made;
   fresh = h.fresh;
   talks = a.tells.talks h.first v.bodies v.texts h.talks;
-  ended = λ e. absurd (not_ended (stage_of after.seen.kept.next) a.tells.behind e);
+  ended = λ e. absurd (let clash : Stages.Writes ≡ Stages.Ended = sym a.tells.writes ∙ e in cc);
 }
 
 -- ---- when there was no posting
@@ -130,33 +111,48 @@ no_answer-more d later k same ts more seen h = record {
 
 module _ (d later : Exchange) (same : later.received ≡ d.received) (ts : List Told) (more : later.sent.told ≡ d.sent.told ++ ts)
     (seen : d.received.seen ≤ length d.sent.told) where
-  was_busy-more : (k : ℕ) (b : Bool) (l : ClientTold) → WasBusy d k b l → WasBusy later k b l
-  was_busy-more k true l h = no_answer-more d later k same ts more seen h
-  was_busy-more k false l h = h
+  was_paused-more : (k : ℕ) (p : Pause) (l : ClientTold) → WasPaused d k p l → WasPaused later k p l
+  was_paused-more k for_answer l h = no_answer-more d later k same ts more seen h
+  was_paused-more k for_wire l h = h
+  was_paused-more k at_end l h = h
 
-  busy_more : (k : ℕ) (bs : List Bool) (ls : List ClientTold) → WereBusy d k bs ls → WereBusy later k bs ls
-  busy_more k [] [] h = h
-  busy_more k [] (l ∷ ls) h = absurd h
-  busy_more k (b ∷ bs) [] h = absurd h
-  busy_more k (b ∷ bs) (l ∷ ls) h = (was_busy-more k b l h.0, busy_more (suc k) bs ls h.1)
+  paused_more : (k : ℕ) (ps : List Pause) (ls : List ClientTold) → WerePaused d k ps ls → WerePaused later k ps ls
+  paused_more k [] [] h = h
+  paused_more k [] (l ∷ ls) h = absurd h
+  paused_more k (p ∷ ps) [] h = absurd h
+  paused_more k (p ∷ ps) (l ∷ ls) h = (was_paused-more k p l h.0, paused_more (suc k) ps ls h.1)
 
--- a connection that pending its answer had none
-owing_busy : (d : Exchange) (k : ℕ) (b : Bool) (l after : ClientTold) → stage_of l.seen.kept.next ≡ Stages.Owes → WasBusy d k b l → WasBusy d k b after
-owing_busy d k true l after owes h = h
-owing_busy d k false l after owes h = absurd (not_over (stage_of l.seen.kept.next) owes h)
+-- what a connection that owed an answer is told changes nothing of why nothing came of it
+owing_paused : (d : Exchange) (k : ℕ) (p : Pause) (l after : ClientTold) → stage_of l.seen.kept.next ≡ Stages.Owes → after.waits ≡ l.waits → WasPaused d k p l
+    → WasPaused d k p after
+owing_paused d k for_answer l after owes waits h = h
+owing_paused d k for_wire l after owes waits h = subst (λ n. 0 < n) (sym waits) h
+owing_paused d k at_end l after owes waits h = absurd (not_over (stage_of l.seen.kept.next) owes h)
 
--- so that what it is told changes nothing of it
-busy_set : (d : Exchange) (k : ℕ) (bs : List Bool) (ls : List ClientTold) (n : ℕ) (l after : ClientTold) → slice_get ls n ≡ Some l
-    → stage_of l.seen.kept.next ≡ Stages.Owes → WereBusy d k bs ls → WereBusy d k bs (slice_set ls n after)
-busy_set d k [] [] n l after there owes h = h
-busy_set d k [] (x ∷ ls) n l after there owes h = absurd h
-busy_set d k (b ∷ bs) [] n l after there owes h = absurd h
-busy_set d k (b ∷ bs) (x ∷ ls) zero l after there owes h =
-    (owing_busy d k b l after owes (subst (WasBusy d k b) (same_of x l there) h.0), h.1)
-busy_set d k (b ∷ bs) (x ∷ ls) (suc n) l after there owes h = (h.0, busy_set d (suc k) bs ls n l after there owes h.1)
+-- nor of the others
+paused_set : (d : Exchange) (k : ℕ) (ps : List Pause) (ls : List ClientTold) (n : ℕ) (l after : ClientTold) → slice_get ls n ≡ Some l
+    → stage_of l.seen.kept.next ≡ Stages.Owes → after.waits ≡ l.waits → WerePaused d k ps ls → WerePaused d k ps (slice_set ls n after)
+paused_set d k [] [] n l after there owes waits h = h
+paused_set d k [] (x ∷ ls) n l after there owes waits h = absurd h
+paused_set d k (p ∷ ps) [] n l after there owes waits h = absurd h
+paused_set d k (p ∷ ps) (x ∷ ls) zero l after there owes waits h =
+    (owing_paused d k p l after owes waits (subst (WasPaused d k p) (same_of x l there) h.0), h.1)
+paused_set d k (p ∷ ps) (x ∷ ls) (suc n) l after there owes waits h = (h.0, paused_set d (suc k) ps ls n l after there owes waits h.1)
+
+-- wires waited as often where one of them is another that waited as often
+waits_set : (ls : List ClientTold) (n : ℕ) (l after : ClientTold) → slice_get ls n ≡ Some l → after.waits ≡ l.waits
+    → sum_by (λ (l : ClientTold). l.waits) (slice_set ls n after) ≡ sum_by (λ (l : ClientTold). l.waits) ls
+waits_set [] n l after there waits = refl
+waits_set (x ∷ ls) zero l after there waits =
+    sum_by-cons (λ (l : ClientTold). l.waits) after ls
+    ∙ ap (λ k. k + sum_by (λ (l : ClientTold). l.waits) ls) (waits ∙ sym (ap (λ (l : ClientTold). l.waits) (same_of x l there)))
+    ∙ sym (sum_by-cons (λ (l : ClientTold). l.waits) x ls)
+waits_set (x ∷ ls) (suc n) l after there waits =
+    sum_by-cons (λ (l : ClientTold). l.waits) x (slice_set ls n after) ∙ ap (λ k. x.waits + k) (waits_set ls n l after there waits)
+    ∙ sym (sum_by-cons (λ (l : ClientTold). l.waits) x ls)
 
 -- whether a connection can come asks for the doors and for how many connections there are
-no_more-same : (before now : Keeping) → now.ports ≡ before.ports → now.most ≡ before.most → length now.links ≡ length before.links
+no_more-same : (before now : Keeping) → now.doors ≡ before.doors → now.most ≡ before.most → length now.connections ≡ length before.connections
     → no_more now ≡ no_more before
 no_more-same before now ports most count = λ i. nat_le (most i) (count i) || list_all (λ (p : ListenerTold). has_ended p.door) (ports i)
 
@@ -190,7 +186,7 @@ module _ (IsMade : WireTold → Type 0) (parts : ProgramParts) (first : Sides) (
     (running : old.halted ≡ false) where
   -- what passed on the connection
   here : IsIn IsMade h.connections a.number a.link
-  here = link_in IsMade old.links h.connections a.number a.link h.links a.there
+  here = link_in IsMade old.connections h.connections a.number a.link h.clients a.there
 
   -- and with the text
   abbrev now_here : RunConnection
@@ -248,9 +244,9 @@ module _ (IsMade : WireTold → Type 0) (parts : ProgramParts) (first : Sides) (
 
   -- the request that waited was told its text
   heard_now : (j : ℕ) (q : Asked) (c : Came) → slice_get h.all.asked j ≡ Some q → slice_get h.all.came j ≡ Some c → q.traffic ≡ a.number
-      → IsPending old.links j q c here.connection → IsHeard parts now_heard j c (slice_get (here.connection.texts ++ a.tells.text ∷ []) q.request)
+      → IsPending old.connections j q c here.connection → IsHeard parts now_heard j c (slice_get (here.connection.texts ++ a.tells.text ∷ []) q.request)
   heard_now j q c asked came is pending =
-      let same_link : pending.link ≡ a.link = same_of pending.link a.link (sym pending.there ∙ ap (slice_get old.links) is ∙ a.there) in
+      let same_link : pending.link ≡ a.link = same_of pending.link a.link (sym pending.there ∙ ap (slice_get old.connections) is ∙ a.there) in
       let same_pending : pending_of j c.read ≡ pending_of place a.tells.of_place.read =
       same_of (pending_of j c.read) (pending_of place a.tells.of_place.read)
       (sym pending.pending ∙ ap (λ (l : ClientTold). l.pending) same_link ∙ a.tells.of_place.pending) in
@@ -268,7 +264,7 @@ module _ (IsMade : WireTold → Type 0) (parts : ProgramParts) (first : Sides) (
   -- those of the connection
   heard_here : (j : ℕ) (q : Asked) (c : Came) → slice_get h.all.asked j ≡ Some q → slice_get h.all.came j ≡ Some c → q.traffic ≡ a.number
       → IsHeard parts h.heard j c (slice_get here.connection.texts q.request) ⊎
-      (IsPending old.links j q c here.connection × (list_any (λ (t : Told). nat_eq j t.place) h.heard ≡ false))
+      (IsPending old.connections j q c here.connection × (list_any (λ (t : Told). nat_eq j t.place) h.heard ≡ false))
       → IsHeard parts now_heard j c (slice_get (here.connection.texts ++ a.tells.text ∷ []) q.request)
   heard_here j q c asked came is (inl heard) =
       let within : q.request < length here.connection.texts =
@@ -280,9 +276,9 @@ module _ (IsMade : WireTold → Type 0) (parts : ProgramParts) (first : Sides) (
   -- those of the others
   heard_there : (j : ℕ) (q : Asked) (c : Came) (connection : RunConnection) → slice_get h.all.asked j ≡ Some q → q.traffic ≢ a.number
       → IsHeard parts h.heard j c (slice_get connection.texts q.request) ⊎
-      (IsPending old.links j q c connection × (list_any (λ (t : Told). nat_eq j t.place) h.heard ≡ false))
+      (IsPending old.connections j q c connection × (list_any (λ (t : Told). nat_eq j t.place) h.heard ≡ false))
       → IsHeard parts now_heard j c (slice_get connection.texts q.request) ⊎
-      (IsPending new.links j q c connection × (list_any (λ (t : Told). nat_eq j t.place) now_heard ≡ false))
+      (IsPending new.connections j q c connection × (list_any (λ (t : Told). nat_eq j t.place) now_heard ≡ false))
   heard_there j q c connection asked other (inl heard) =
       inl (heard_longer parts h.heard (told_of place outcomes) j c (slice_get connection.texts q.request) heard)
   heard_there j q c connection asked other (inr pending) =
@@ -290,7 +286,7 @@ module _ (IsMade : WireTold → Type 0) (parts : ProgramParts) (first : Sides) (
       inr (
         record {
           link = pending.0.link;
-          there = ap (λ l. slice_get l q.traffic) a.links ∙ set_other old.links a.number q.traffic a.after other ∙ pending.0.there;
+          there = ap (λ l. slice_get l q.traffic) a.connections ∙ set_other old.connections a.number q.traffic a.after other ∙ pending.0.there;
           pending = pending.0.pending;
           last = pending.0.last;
         },
@@ -305,43 +301,38 @@ module _ (IsMade : WireTold → Type 0) (parts : ProgramParts) (first : Sides) (
     where
       by : ((q.traffic ≡ a.number) × (connection ≡ now_here)) ⊎ ((q.traffic ≢ a.number) × (slice_get h.connections q.traffic ≡ Some connection))
           → IsHeard parts now_heard j c (slice_get connection.texts q.request) ⊎
-          (IsPending new.links j q c connection × (list_any (λ (t : Told). nat_eq j t.place) now_heard ≡ false))
+          (IsPending new.connections j q c connection × (list_any (λ (t : Told). nat_eq j t.place) now_heard ≡ false))
       by (inl is) =
           inl (subst (λ (v : RunConnection). IsHeard parts now_heard j c (slice_get v.texts q.request)) (sym is.1)
           (heard_here j q c asked came is.0 (h.answers j q c here.connection asked came (ap (slice_get h.connections) is.0 ∙ here.there))))
       by (inr other) = heard_there j q c connection asked other.0 (h.answers j q c connection asked came other.1)
-
-  -- the connections came in turn as before
-  in_turn_now : CameInTurn now_exchanged (slice_set old.links a.number a.after)
-  in_turn_now =
-      in_turn-told d now_exchanged.sent (told_of place outcomes ∷ []) (slice_set old.links a.number a.after) refl
-      (seen_within d.received.seens h.heard d.sent.told h.heard_by h.told)
-      (in_turn-on d.received.asked d.received.seens d.sent.told old.links (slice_set old.links a.number a.after)
-      (λ j q there. asked_within IsMade old.links h.connections h.links h.all.asked h.all.came h.came j q (ap (λ l. slice_get l j) h.asked ∙ there))
-      (over_set old.links a.number a.link a.after a.there (not_over (stage_of a.link.seen.kept.next) a.tells.tells.owing)) h.in_turn)
 
   -- ---- all of it
 
   -- where there was no posting the connection waited for its answer
   none_now : HadNone old d → HadNone new now_exchanged
   none_now n =
-      let count : length new.links ≡ length old.links = ap length a.links ∙ length-set old.links a.number a.after in
-      let same : no_more new ≡ no_more old = no_more-same old new a.ports a.most count in
+      let count : length new.connections ≡ length old.connections = ap length a.connections ∙ length-set old.connections a.number a.after in
+      let same : no_more new ≡ no_more old = no_more-same old new a.doors a.most count in
       record {
-        busy = n.busy;
-        each = subst (WereBusy now_exchanged 0 n.busy) (sym a.links)
-            (busy_more d now_exchanged refl (told_of place outcomes ∷ []) refl h.seen 0 n.busy (slice_set old.links a.number a.after)
-            (busy_set d 0 n.busy old.links a.number a.link a.after a.there a.tells.tells.owing n.each));
-        over = λ ended. same ∙ n.over ended;
-        some = λ ended. same ∙ n.some ended;
+        pauses = n.pauses;
+        each = subst (WerePaused now_exchanged 0 n.pauses) (sym a.connections)
+            (paused_more d now_exchanged refl (told_of place outcomes ∷ []) refl h.seen 0 n.pauses (slice_set old.connections a.number a.after)
+            (paused_set d 0 n.pauses old.connections a.number a.link a.after a.there a.tells.tells.owing a.tells.waits n.each));
+        over = λ ended. (same ∙ (n.over ended).0, (n.over ended).1);
         waited = λ ended. waited_by (n.waited ended);
-        rested = λ ended. subst (λ ps. min d.received.waits (2 ^ 64 - 1) ≤ rests_at ps) (sym a.ports) (n.rested ended);
+        rested = λ ended. subst (λ ps. min d.received.waits (2 ^ 64 - 1) ≤ rests_at ps) (sym a.doors) (n.rested ended);
       }
     where
-      waited_by : (most_open ≤ count_by (λ (b : Bool). b) n.busy) ⊎ HaveWaited d.received.waits old.ports
-          → (most_open ≤ count_by (λ (b : Bool). b) n.busy) ⊎ HaveWaited d.received.waits new.ports
+      waits : waits_at new.doors new.connections ≡ waits_at old.doors old.connections
+      waits =
+          ap₂ (λ ps ls. waits_at ps ls) a.doors a.connections
+          ∙ ap (λ k. sum_by (λ (p : ListenerTold). p.door.waits) old.doors + k) (waits_set old.connections a.number a.link a.after a.there a.tells.waits)
+
+      waited_by : (most_open ≤ count_by is_for_answer n.pauses) ⊎ (min d.received.waits (2 ^ 64 - 1) ≤ waits_at old.doors old.connections)
+          → (most_open ≤ count_by is_for_answer n.pauses) ⊎ (min d.received.waits (2 ^ 64 - 1) ≤ waits_at new.doors new.connections)
       waited_by (inl full) = inl full
-      waited_by (inr waited) = inr (subst (HaveWaited d.received.waits) (sym a.ports) waited)
+      waited_by (inr waited) = inr (subst (λ k. min d.received.waits (2 ^ 64 - 1) ≤ k) (sym waits) waited)
 
   none_by : HadNone old d ⊎ (most_postings ≤ length d.received.given) → HadNone new now_exchanged ⊎ (most_postings ≤ length d.received.given)
   none_by (inl n) = inl (none_now n)
@@ -350,26 +341,26 @@ module _ (IsMade : WireTold → Type 0) (parts : ProgramParts) (first : Sides) (
   -- what passed, with the answer
   exchanged_now : HasExchanged IsMade parts first (sides_of new notes) now_exchanged
   exchanged_now =
-      let count : length new.links ≡ length old.links = ap length a.links ∙ length-set old.links a.number a.after in
+      let count : length new.connections ≡ length old.connections = ap length a.connections ∙ length-set old.connections a.number a.after in
       let heard_all : h.heard ≡ d.sent.told = h.all_told (h.sent.halted ∙ running) in
-      let accepted : length old.links ≤ old.most = h.accepted in
+      let accepted : length old.connections ≤ old.most = h.accepted in
       let most : new.most ≡ old.most = a.most in
       let seen : d.received.seen ≤ length d.sent.told = h.seen in
       let longer : length now_exchanged.sent.told ≡ length d.sent.told + 1 = length-append d.sent.told (told_of place outcomes ∷ []) in
       record {
-        services = ap (map (λ (p : ListenerTold). p.service)) a.ports ∙ h.services;
-        in_place = ap (map (λ (p : ListenerTold). p.door.place)) a.ports ∙ h.in_place;
+        services = ap (map (λ (p : ListenerTold). p.service)) a.doors ∙ h.services;
+        in_place = ap (map (λ (p : ListenerTold). p.door.place)) a.doors ∙ h.in_place;
         most = a.most ∙ h.most;
-        within = subst (λ ps. list_all (λ n. nat_lt n (length parts.services)) (map (λ (p : ListenerTold). p.service) ps) ≡ true) (sym a.ports) h.within;
+        within = subst (λ ps. list_all (λ n. nat_lt n (length parts.services)) (map (λ (p : ListenerTold). p.service) ps) ≡ true) (sym a.doors) h.within;
         connections = now_all;
-        links = subst (λ ls. AreClients IsMade ls now_all) (sym a.links)
-            (links_set IsMade old.links h.connections a.number a.after now_here h.links
+        clients = subst (λ ls. AreClients IsMade ls now_all) (sym a.connections)
+            (links_set IsMade old.connections h.connections a.number a.after now_here h.clients
             (link_told IsMade parts (told_of place outcomes) a.link a.after here.connection a.tells here.is));
-        came_in = ap (sum_by (λ (p : ListenerTold). p.door.wires)) a.ports ∙ h.came_in ∙ sym count;
-        led = subst (λ ps. AreLed ps new.links) (sym a.ports)
-            (led-set old.ports old.links new.links a.number a.link a.after a.there a.tells.service a.links h.led);
-        doors = subst (λ ps. list_all (λ (v : RunConnection). list_any (is_led v.door v.service) (map lead_of ps)) now_all ≡ true) (sym a.ports)
-            (list_all-set (λ (v : RunConnection). list_any (is_led v.door v.service) (leads_of old)) h.connections a.number here.connection now_here here.there refl ∙ h.doors);
+        came_in = ap (sum_by (λ (p : ListenerTold). p.door.wires)) a.doors ∙ h.came_in ∙ sym count;
+        led = subst (λ ps. AreLed ps new.connections) (sym a.doors)
+            (led-set old.doors old.connections new.connections a.number a.link a.after a.there a.tells.service a.connections h.led);
+        at_doors = subst (λ ps. list_all (λ (v : RunConnection). list_any (is_led v.door v.service) (map lead_of ps)) now_all ≡ true) (sym a.doors)
+            (list_all-set (λ (v : RunConnection). list_any (is_led v.door v.service) (leads_of old)) h.connections a.number here.connection now_here here.there refl ∙ h.at_doors);
         accepted = omega arith;
         all = h.all;
         asked = h.asked;
@@ -387,7 +378,6 @@ module _ (IsMade : WireTold → Type 0) (parts : ProgramParts) (first : Sides) (
             (and_from (nat_lt place (length h.all.asked)) true (lt-ltb place (length h.all.asked) (given_before IsMade parts first old notes d place outcomes h due)) refl);
         answers = all_heard;
         one_by_one = one_by_one-longer d now_exchanged.sent (told_of place outcomes ∷ []) refl h.one_by_one;
-        in_turn = subst (CameInTurn now_exchanged) (sym a.links) in_turn_now;
         sent = sent_told first (sides_of old notes) d.sent h.sent new (told_of place outcomes) a.halted;
         noted_by_then = h.noted_by_then;
         left = h.left;
@@ -414,10 +404,10 @@ module _ (IsMade : WireTold → Type 0) (parts : ProgramParts) (first before : S
         most = h.most;
         within = h.within;
         connections = h.connections;
-        links = h.links;
+        clients = h.clients;
         came_in = h.came_in;
         led = h.led;
-        doors = h.doors;
+        at_doors = h.at_doors;
         accepted = h.accepted;
         all = h.all;
         asked = h.asked;
@@ -432,8 +422,6 @@ module _ (IsMade : WireTold → Type 0) (parts : ProgramParts) (first before : S
         places = h.places;
         answers = h.answers;
         one_by_one = one_by_one-longer d (record d.sent { told = d.sent.told ++ t ∷ [] }) (t ∷ []) refl h.one_by_one;
-        in_turn = in_turn-told d (record d.sent { told = d.sent.told ++ t ∷ [] }) (t ∷ []) before.kept.links refl
-            (seen_within d.received.seens h.heard d.sent.told h.heard_by h.told) h.in_turn;
         sent = sent_told first before d.sent h.sent before.kept t refl;
         noted_by_then = h.noted_by_then;
         left = h.left;
@@ -458,10 +446,9 @@ module _ (IsMade : WireTold → Type 0) (parts : ProgramParts) (first : Sides) (
   none_noted : HadNone old d ⊎ (most_postings ≤ length d.received.given)
       → HadNone (record old { halted = halted }) noted_exchanged ⊎ (most_postings ≤ length d.received.given)
   none_noted (inl k) = inl (record {
-    busy = k.busy;
-    each = busy_more d noted_exchanged refl [] (n.told ∙ sym (append-nil d.sent.told)) h.seen 0 k.busy old.links k.each;
+    pauses = k.pauses;
+    each = paused_more d noted_exchanged refl [] (n.told ∙ sym (append-nil d.sent.told)) h.seen 0 k.pauses old.connections k.each;
     over = k.over;
-    some = k.some;
     waited = k.waited;
     rested = k.rested;
   })
@@ -474,10 +461,10 @@ module _ (IsMade : WireTold → Type 0) (parts : ProgramParts) (first : Sides) (
     most = h.most;
     within = h.within;
     connections = h.connections;
-    links = h.links;
+    clients = h.clients;
     came_in = h.came_in;
     led = h.led;
-    doors = h.doors;
+    at_doors = h.at_doors;
     accepted = h.accepted;
     all = h.all;
     asked = h.asked;
@@ -492,8 +479,6 @@ module _ (IsMade : WireTold → Type 0) (parts : ProgramParts) (first : Sides) (
     places = h.places;
     answers = h.answers;
     one_by_one = one_by_one-longer d n.after [] (n.told ∙ sym (append-nil d.sent.told)) h.one_by_one;
-    in_turn = in_turn-told d n.after [] old.links (n.told ∙ sym (append-nil d.sent.told))
-        (seen_within d.received.seens h.heard d.sent.told h.heard_by h.told) h.in_turn;
     sent = n.sent;
     noted_by_then = longer_front d.received.noted h.sent.notes n.sent.notes h.noted_by_then n.grew;
     left = h.left;
@@ -664,11 +649,11 @@ nothing_exchanged IsMade parts kept notes empty within = (
     most = refl;
     within = within;
     connections = [];
-    links = subst (λ ls. AreClients IsMade ls []) (sym empty.links) tt;
-    came_in = no_wires kept.ports empty.ports ∙ sym (ap length empty.links);
-    led = λ n. led-new n kept.ports empty.ports ∙ sym (ap (count_by (leads_to n)) empty.links);
-    doors = refl;
-    accepted = subst (λ (ls : List ClientTold). length ls ≤ kept.most) (sym empty.links) (omega arith);
+    clients = subst (λ ls. AreClients IsMade ls []) (sym empty.connections) tt;
+    came_in = no_wires kept.doors empty.doors ∙ sym (ap length empty.connections);
+    led = λ n. led-new n kept.doors empty.doors ∙ sym (ap (count_by (leads_to n)) empty.connections);
+    at_doors = refl;
+    accepted = subst (λ (ls : List ClientTold). length ls ≤ kept.most) (sym empty.connections) (omega arith);
     all = record { asked = []; came = [] };
     asked = refl;
     traffics = sym empty.traffics;
@@ -682,7 +667,6 @@ nothing_exchanged IsMade parts kept notes empty within = (
     places = refl;
     answers = λ j q c connection asked. absurd (none_not_some q asked);
     one_by_one = record { counts = refl; each = λ i j n q r there. absurd (none_not_some q there) };
-    in_turn = λ j k n q link there. absurd (none_not_some q there);
     sent = record {
       notes = [];
       written = Appends-nil notes.written;

@@ -7,27 +7,15 @@ use Rattle.behaviour_tree.specs.declared.words.Outcome.{Outcome}
 use Rattle.jsonrpc_text.specs.declared.message.Read.{Read}
 use Rattle.run_theorem.specs.Exchange.{Told}
 use Rattle.jsonrpc_postings.specs.Told.{came_for, response_told}
-use Rattle.http_connection.specs.declared.stage.Stage.{Stage}
-use Rattle.http_connection.specs.declared.stage.Stage.TheVariants as Stages
-use Rattle.http_connection.specs.Stages.{stage_of, IsBehindTelling}
+use Rattle.conn_future.specs.declared.stage.Stage.TheVariants as Stages
+use Rattle.conn_future.specs.Stages.{stage_of}
+use Rattle.conn_future.specs.Talking.{Seen, IsTalking}
 use Rattle.outside_traits.specs.Told.{WireTold}
-use Rattle.http_connection.specs.Seen.{Seen}
-use Rattle.http_connection.specs.Talking.{IsTalking}
 use Rattle.run_door_front.specs.declared.link.PendingReply.{PendingReply}
 use Rattle.run_door_front.specs.Keeping.{ClientTold, Keeping}
-use Rattle.run_door_front.specs.NextSteps.{stage_at}
+use Rattle.run_door_front.specs.Keeping.{owes as owes_answer}
 
 -- ---- who owes an answer
-
--- an answer is owed at this stage
-abbrev pub owes_at : Stage → Bool
-owes_at Stages.Reads = false
-owes_at Stages.Owes = true
-owes_at Stages.Ended = false
-owes_at Stages.Closed = false
-owes_at Stages.ReadFailed = false
-owes_at Stages.WriteFailed = false
-owes_at Stages.Spent = false
 
 -- the request that has no answer yet is that of the posting of a place
 abbrev pub is_pending : ℕ → Option PendingReply → Bool
@@ -36,7 +24,7 @@ is_pending place (Some pending) = nat_eq pending.place place
 
 -- a connection owes the answer of the posting of a place
 abbrev pub owes : ℕ → ClientTold → Bool
-owes place link = owes_at (stage_at link) && is_pending place link.pending
+owes place link = owes_answer link && is_pending place link.pending
 
 -- the number of a connection, where it owes the answer of the posting of a place
 abbrev pub awaited_at : ℕ → ℕ → Option ClientTold → Option ℕ
@@ -54,11 +42,11 @@ awaited place links traffics = awaited_by place links (slice_get traffics place)
 
 -- The posting of a place is of the connection of a number, which owes its answer.
 abbrev pub Awaits : ℕ → ℕ → Keeping → Type 0
-Awaits place number kept = awaited place kept.links kept.traffics ≡ Some number
+Awaits place number kept = awaited place kept.connections kept.traffics ≡ Some number
 
 -- no connection owes the answer of the posting of a place
 abbrev pub AwaitsNone : ℕ → Keeping → Type 0
-AwaitsNone place kept = awaited place kept.links kept.traffics ≡ None
+AwaitsNone place kept = awaited place kept.connections kept.traffics ≡ None
 
 -- ---- what is told
 
@@ -75,7 +63,7 @@ pub record IsTextOf (parts : ProgramParts) (told : Told) (link : ClientTold) (te
 -- A connection that pending an answer was told a text.
 pub record TellsText (text : Option (List ℕ)) (before now : Seen) : Type 0 where
   pub owing : stage_of before.kept.next ≡ Stages.Owes
-  pub behind : IsBehindTelling (stage_of now.kept.next)
+  pub writes : stage_of now.kept.next ≡ Stages.Writes
   pub talks : (first : WireTold) (bodies : List (List ℕ)) (texts : List (Option (List ℕ)))
       → IsTalking first before bodies texts → IsTalking first now bodies (texts ++ text ∷ [])
 
@@ -86,6 +74,7 @@ pub record HasTold (parts : ProgramParts) (told : Told) (before now : ClientTold
   pub tells : TellsText text before.seen now.seen
   pub paid : now.pending ≡ None
   pub service : now.service ≡ before.service
+  pub waits : now.waits ≡ before.waits
 
 -- The connection of a place was told so, and all else stays.
 pub record HasAnswered (parts : ProgramParts) (told : Told) (before now : Keeping) : Type 0 where
@@ -93,11 +82,11 @@ pub record HasAnswered (parts : ProgramParts) (told : Told) (before now : Keepin
   pub place : slice_get before.traffics told.place ≡ Some number
   pub link : ClientTold
   pub after : ClientTold
-  pub there : slice_get before.links number ≡ Some link
-  pub links : now.links ≡ slice_set before.links number after
+  pub there : slice_get before.connections number ≡ Some link
+  pub connections : now.connections ≡ slice_set before.connections number after
   pub tells : HasTold parts told link after
-  pub ports : now.ports ≡ before.ports
+  pub doors : now.doors ≡ before.doors
   pub traffics : now.traffics ≡ before.traffics
   pub most : now.most ≡ before.most
   pub halted : now.halted ≡ before.halted
-  pub spent : now.spent ≡ false
+  pub spent : now.spent ≡ before.spent

@@ -1,10 +1,9 @@
 -- What passed between a front over doors and its run.
-use Rattle.std.specs.Prelude.{◌≡◌, ◌≢◌, ◌⊎◌, ℕ, suc, ◌-◌, ◌^◌, ◌<◌, ◌≤◌, min, Bool, true, false, List, [], ◌∷◌}
+use Rattle.std.specs.Prelude.{◌≡◌, ◌≢◌, ◌⊎◌, ℕ, suc, ◌+◌, ◌-◌, ◌^◌, ◌<◌, ◌≤◌, min, Bool, true, false, List, [], ◌∷◌}
 use Rattle.std.specs.Prelude.{length, map, take, nat_eq, nat_lt, count_by, Option, None, Some, Contains, slice_get}
 use Rattle.std.specs.List.{list_all, list_any, sum_by}
 use Rattle.std.specs.Io.KnownBytes.{Appends}
 use Rattle.outside_traits.specs.Causes.{Rose}
-use Rattle.outside_doors.specs.Counts.{has_ended}
 use Rattle.outside_traits.specs.Told.{SinkTold}
 use Rattle.behaviour_tree.specs.Data.{ProgramParts}
 use Rattle.run_theorem.specs.Exchange.{Asked, Told, Sent, Exchange}
@@ -14,13 +13,13 @@ use Rattle.run_theorem.specs.Lines.{IsPrefix, IsProperPrefix}
 use Rattle.jsonrpc_postings.specs.Told.{response_told}
 use Rattle.run_theorem.specs.RunConnections.{RunConnection, came_at, AreTaken}
 use Rattle.run_theorem.specs.Served.{Requests}
-pub use Rattle.run_theorem.specs.Through.{most_open}
+pub use Rattle.run_theorem.specs.Through.{most_open, Pause, for_answer, for_wire, at_end, is_for_answer, is_for_wire}
 pub use Rattle.run_theorem.specs.Used.{IsNewLine}
-use Rattle.http_connection.specs.declared.stage.Stage.{Stage}
-use Rattle.http_connection.specs.declared.stage.Stage.TheVariants as Stages
-use Rattle.http_connection.specs.Stages.{stage_of, IsOver}
+use Rattle.conn_future.specs.declared.stage.Stage.{Stage}
+use Rattle.conn_future.specs.declared.stage.Stage.TheVariants as Stages
+use Rattle.conn_future.specs.Stages.{stage_of, IsOver}
+use Rattle.conn_future.specs.Talking.{IsTalking}
 use Rattle.outside_traits.specs.Told.{WireTold}
-use Rattle.http_connection.specs.Talking.{IsTalking}
 use Rattle.run_door_front.specs.declared.link.PendingReply.{PendingReply}
 use Rattle.run_door_front.specs.Keeping.{ListenerTold, ClientTold, Keeping, services_of, places_of, leads_of, is_led, rests_at, no_more, AreLed}
 
@@ -84,7 +83,7 @@ abbrev pub AreHeard : ProgramParts → Keeping → List RunConnection → Reques
 AreHeard parts kept connections all heard = (j : ℕ) (a : Asked) (c : Came) (connection : RunConnection)
     → slice_get all.asked j ≡ Some a → slice_get all.came j ≡ Some c → slice_get connections a.traffic ≡ Some connection
     → IsHeard parts heard j c (slice_get connection.texts a.request) ⊎
-    (IsPending kept.links j a c connection × (list_any (λ (t : Told). nat_eq j t.place) heard ≡ false))
+    (IsPending kept.connections j a c connection × (list_any (λ (t : Told). nat_eq j t.place) heard ≡ false))
 
 -- The requests of a connection came one by one: when one was asked for, each before it on its connection had been told
 -- of. There is a count of what had been told by then for each posting.
@@ -93,22 +92,6 @@ pub record CameOneByOne (d : Exchange) : Type 0 where
   pub each : (i j n : ℕ) (a b : Asked) → slice_get d.received.asked i ≡ Some a → slice_get d.received.asked j ≡ Some b
       → a.traffic ≡ b.traffic → i < j → slice_get d.received.seens j ≡ Some n
       → list_any (λ (t : Told). nat_eq i t.place) (take n d.sent.told) ≡ true
-
--- connection k waited for an answer when posting j was asked for: an earlier posting of it had not been told of by then
-abbrev pub HadToWait : List Asked → List Told → ℕ → ℕ → Type 0
-HadToWait asked told j k = (i : ℕ) × (a : Asked) × (slice_get asked i ≡ Some a) × (a.traffic ≡ k) × (i < j)
-    × (list_any (λ (t : Told). nat_eq i t.place) told ≡ false)
-
--- a connection, which has the number k, is over, and all its requests had come before posting j
-abbrev pub WasOver : List Asked → ClientTold → ℕ → ℕ → Type 0
-WasOver asked link j k =
-    IsOver (stage_of link.seen.kept.next) × (count_by (is_of k) (take j asked) ≡ count_by (is_of k) asked)
-
--- When a posting was asked for each connection before its own waited for an answer, or it was over.
-abbrev pub CameInTurn : Exchange → List ClientTold → Type 0
-CameInTurn d links = (j k n : ℕ) (a : Asked) (link : ClientTold) → slice_get d.received.asked j ≡ Some a
-    → slice_get d.received.seens j ≡ Some n → slice_get links k ≡ Some link → k < a.traffic
-    → HadToWait d.received.asked (take n d.sent.told) j k ⊎ WasOver d.received.asked link j k
 
 -- What had been told when a posting was asked for was heard, whether the front halted later or not.
 abbrev pub HeardByThen : List ℕ → List Told → Type 0
@@ -139,38 +122,36 @@ pub record HadNoAnswer (d : Exchange) (k : ℕ) : Type 0 where
   pub last : suc asked.request ≡ count_by (is_of k) d.received.asked
   pub untold : list_any (λ (t : Told). nat_eq place t.place) (take d.received.seen d.sent.told) ≡ false
 
--- when the front was asked last, connection k waited for an answer, or it was over
-abbrev pub WasBusy : Exchange → ℕ → Bool → ClientTold → Type 0
-WasBusy d k true link = HadNoAnswer d k
-WasBusy d k false link = IsOver (stage_of link.seen.kept.next)
+-- When the front was asked last, connection k paused so: its last request had no answer, its wire has answered that it can
+-- move nothing yet, or it is over.
+abbrev pub WasPaused : Exchange → ℕ → Pause → ClientTold → Type 0
+WasPaused d k for_answer link = HadNoAnswer d k
+WasPaused d k for_wire link = 0 < link.waits
+WasPaused d k at_end link = IsOver (stage_of link.seen.kept.next)
 
 -- the same of each connection, the first of which has the number k
-abbrev pub WereBusy : Exchange → ℕ → List Bool → List ClientTold → Type 0
-WereBusy d k [] [] = Unit {0}
-WereBusy d k [] (l ∷ ls) = ⊥
-WereBusy d k (b ∷ bs) [] = ⊥
-WereBusy d k (b ∷ bs) (l ∷ ls) = WasBusy d k b l × WereBusy d (suc k) bs ls
+abbrev pub WerePaused : Exchange → ℕ → List Pause → List ClientTold → Type 0
+WerePaused d k [] [] = Unit {0}
+WerePaused d k [] (l ∷ ls) = ⊥
+WerePaused d k (p ∷ ps) [] = ⊥
+WerePaused d k (p ∷ ps) (l ∷ ls) = WasPaused d k p l × WerePaused d (suc k) ps ls
 
--- a door has ended, or it was tried so often, in all, without anybody coming
-abbrev pub has_waited : ℕ → ListenerTold → Type 0
-has_waited n port = (has_ended port.door ≡ true) ⊎ (min n (2 ^ 64 - 1) ≤ port.door.waits)
+-- how often doors answered that nobody has come yet, and wires that they can move nothing yet, in all
+abbrev pub waits_at : List ListenerTold → List ClientTold → ℕ
+waits_at doors connections =
+    sum_by (λ (p : ListenerTold). p.door.waits) doors + sum_by (λ (link : ClientTold). link.waits) connections
 
--- the same of each door
-abbrev pub HaveWaited : ℕ → List ListenerTold → Type 0
-HaveWaited n [] = Unit {0}
-HaveWaited n (p ∷ ps) = has_waited n p × HaveWaited n ps
-
--- The front had no posting: each connection waited for an answer or was over. No connection can come any more; or at
--- least as often as there was none in a row was rested, at all doors, and so many as may be open waited for an answer,
--- or each door has ended or answered as often, in all, that nobody has come yet.
+-- The front had no posting: each connection waited for an answer, had a wire that could move nothing yet, or was over.
+-- No connection can come any more, and each waited for an answer or was over; or at least as often as there was none in a
+-- row was rested, at all doors, and so many as may be open waited for an answer, or doors and wires answered as often,
+-- in all, that nobody has come and nothing moves yet.
 pub record HadNone (kept : Keeping) (d : Exchange) : Type 0 where
-  pub busy : List Bool
-  pub each : WereBusy d 0 busy kept.links
-  pub over : d.received.ended ≡ true → no_more kept ≡ true
-  pub some : d.received.ended ≡ false → no_more kept ≡ false
-  pub waited : d.received.ended ≡ false
-      → (most_open ≤ count_by (λ (b : Bool). b) busy) ⊎ HaveWaited d.received.waits kept.ports
-  pub rested : d.received.ended ≡ false → min d.received.waits (2 ^ 64 - 1) ≤ rests_at kept.ports
+  pub pauses : List Pause
+  pub each : WerePaused d 0 pauses kept.connections
+  pub over : d.received.ended ≡ true → (no_more kept ≡ true) × (list_any is_for_wire pauses ≡ false)
+  pub waited : d.received.ended ≡ false → (most_open ≤ count_by is_for_answer pauses)
+      ⊎ (min d.received.waits (2 ^ 64 - 1) ≤ waits_at kept.doors kept.connections)
+  pub rested : d.received.ended ≡ false → min d.received.waits (2 ^ 64 - 1) ≤ rests_at kept.doors
 
 -- the front had no posting when it was asked last
 abbrev pub GaveNone : Exchange → Type 0
@@ -188,11 +169,11 @@ pub record HasExchanged (IsMade : WireTold → Type 0) (parts : ProgramParts) (f
   pub most : now.kept.most ≡ first.kept.most
   pub within : list_all (λ n. nat_lt n (length parts.services)) (services_of now.kept) ≡ true
   pub connections : List RunConnection
-  pub links : AreClients IsMade now.kept.links connections
-  pub came_in : sum_by (λ (p : ListenerTold). p.door.wires) now.kept.ports ≡ length now.kept.links
-  pub led : AreLed now.kept.ports now.kept.links
-  pub doors : list_all (λ (v : RunConnection). list_any (is_led v.door v.service) (leads_of now.kept)) connections ≡ true
-  pub accepted : length now.kept.links ≤ now.kept.most
+  pub clients : AreClients IsMade now.kept.connections connections
+  pub came_in : sum_by (λ (p : ListenerTold). p.door.wires) now.kept.doors ≡ length now.kept.connections
+  pub led : AreLed now.kept.doors now.kept.connections
+  pub at_doors : list_all (λ (v : RunConnection). list_any (is_led v.door v.service) (leads_of now.kept)) connections ≡ true
+  pub accepted : length now.kept.connections ≤ now.kept.most
   pub all : Requests
   pub asked : all.asked ≡ d.received.asked
   pub traffics : map (λ (a : Asked). a.traffic) all.asked ≡ now.kept.traffics
@@ -206,7 +187,6 @@ pub record HasExchanged (IsMade : WireTold → Type 0) (parts : ProgramParts) (f
   pub places : list_all (λ (t : Told). nat_lt t.place (length all.asked)) heard ≡ true
   pub answers : AreHeard parts now.kept connections all heard
   pub one_by_one : CameOneByOne d
-  pub in_turn : CameInTurn d now.kept.links
   pub sent : HasSent first now d.sent
   pub noted_by_then : IsPrefix d.received.noted sent.notes
   pub left : d.received.left ≡ None

@@ -2,3 +2,4 @@ pub mod Keeping
 pub mod Exchanged
 pub mod AnswerSteps
 pub mod NextSteps
+pub mod Draining

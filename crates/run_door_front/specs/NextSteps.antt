@@ -1,8 +1,7 @@
--- These definitions serve the proofs alone: no promise speaks of them.
 -- How a front over doors comes to its next posting.
-use Rattle.std.specs.Prelude.{◌≡◌, ◌⊎◌, ℕ, ◌+◌, ◌-◌, ◌^◌, ◌≤◌, ◌<◌, min, Bool, true, false, not, ◌&&◌, ◌||◌, List}
-use Rattle.std.specs.Prelude.{[], ◌∷◌, ◌++◌, length, map, if◌then◌else◌}
-use Rattle.std.specs.Prelude.{nat_lt, nat_le, count_by, slice_get, slice_set, Option, None, Some, option_map}
+use Rattle.std.specs.Prelude.{◌≡◌, ◌≢◌, ◌⊎◌, ℕ, ◌+◌, ◌-◌, ◌^◌, ◌≤◌, ◌<◌, min, Bool, true, false, not, ◌&&◌, ◌||◌, List}
+use Rattle.std.specs.Prelude.{[], ◌∷◌, ◌++◌, length, map, if◌then◌else◌, nat_eq}
+use Rattle.std.specs.Prelude.{nat_lt, count_by, slice_get, slice_set, Option, None, Some}
 use Rattle.std.specs.List.{list_all, list_any, sum_by}
 use Rattle.jsonrpc_text.specs.Posted.{posted}
 use Rattle.outside_doors.specs.Counts.{added, rested, has_ended}
@@ -12,15 +11,14 @@ use Rattle.run_theorem.specs.declared.front.Next.TheVariants as next
 use Rattle.run_theorem.specs.Calls.{most_postings}
 use Rattle.run_theorem.specs.Texts.{posting_of}
 use Rattle.run_theorem.specs.RunConnections.{came_with}
-use Rattle.http_connection.specs.declared.stage.Stage.{Stage}
-use Rattle.http_connection.specs.declared.stage.Stage.TheVariants as Stages
-use Rattle.http_connection.specs.Stages.{stage_of, IsOver, IsBehindAsking}
+use Rattle.conn_future.specs.declared.stage.Stage.{Stage}
+use Rattle.conn_future.specs.declared.stage.Stage.TheVariants as Stages
+use Rattle.conn_future.specs.Stages.{IsOver, IsUnanswered, IsAtRest}
+use Rattle.conn_future.specs.Talking.{IsTalking, TalksOn}
 use Rattle.outside_traits.specs.Told.{WireTold}
-use Rattle.http_connection.specs.Talking.{IsTalking, handed}
 use Rattle.run_door_front.specs.declared.link.PendingReply.{PendingReply}
-use Rattle.run_door_front.specs.declared.reading.Turn.{Turn}
-use Rattle.run_door_front.specs.declared.reading.Turn.TheVariants as turn
-use Rattle.run_door_front.specs.Keeping.{ListenerTold, ClientTold, Keeping, Lead, lead_of, is_led, rests_at, wires_to, leads_to, AreLed}
+use Rattle.run_door_front.specs.Keeping.{ListenerTold, ClientTold, Keeping, Lead, lead_of, is_led, rests_at, wires_to}
+use Rattle.run_door_front.specs.Keeping.{leads_to, AreLed, stage_at, is_open, asks, owes, asks_there, IsOrdered, closed_off}
 use Rattle.run_door_front.specs.Exchanged.{IsNewLine, most_open}
 
 -- ---- doors
@@ -29,11 +27,13 @@ use Rattle.run_door_front.specs.Exchanged.{IsNewLine, most_open}
 abbrev pub HasNotFallen : ℕ → ℕ → Type 0
 HasNotFallen before now = min before (2 ^ 64 - 1) ≤ now
 
--- A door goes on: its service and its place stay, an end stays, and its waits and rests do not fall.
+-- A door goes on: its service and its place stay, an end stays, and its waits and rests do not fall. At one that has
+-- ended nothing is done but to rest.
 pub record GoesOn (before now : ListenerTold) : Type 0 where
   pub service : now.service ≡ before.service
   pub place : now.door.place ≡ before.door.place
   pub ended : has_ended before.door ≡ true → has_ended now.door ≡ true
+  pub untried : has_ended before.door ≡ true → now.door ≡ record before.door { rests = now.door.rests }
   pub waits : HasNotFallen before.door.waits now.door.waits
   pub rests : HasNotFallen before.door.rests now.door.rests
 
@@ -71,99 +71,68 @@ place_of port = port.door.place
 abbrev pub rested_at : ListenerTold → ListenerTold
 rested_at port = record port { door = rested port.door }
 
--- doors behind a rest at the first of them that has not ended
-abbrev pub after_rest : List ListenerTold → List ListenerTold
-after_rest [] = []
-after_rest (p ∷ ps) = if has_ended p.door then p ∷ after_rest ps else rested_at p ∷ ps
+-- doors after a rest at the first of them
+abbrev pub rested_first : List ListenerTold → List ListenerTold
+rested_first [] = []
+rested_first (p ∷ ps) = rested_at p ∷ ps
 
--- doors behind a call that came to this without a posting: there was a rest where there is nothing yet
-abbrev pub ports_after : Next → List ListenerTold → List ListenerTold
-ports_after (next.Posting p) ports = ports
-ports_after next.NotYet ports = after_rest ports
-ports_after next.End ports = ports
+-- doors after a rest at the first of them that has not ended
+abbrev pub rested_open : List ListenerTold → List ListenerTold
+rested_open [] = []
+rested_open (p ∷ ps) = if has_ended p.door then p ∷ rested_open ps else rested_at p ∷ ps
+
+-- doors after a rest at the first of them that has not ended, or, where all have, at the first of all
+abbrev pub after_rest : List ListenerTold → List ListenerTold
+after_rest ps = if list_all (λ (p : ListenerTold). has_ended p.door) ps then rested_first ps else rested_open ps
 
 -- ---- connections
 
--- how a connection stands
-abbrev pub stage_at : ClientTold → Stage
-stage_at link = stage_of link.seen.kept.next
+-- each connection that is open waits for an answer
+abbrev pub all_owing : List ClientTold → Bool
+all_owing links = list_all (λ (link : ClientTold). owes link || not (is_open link)) links
 
--- a connection at this stage is not over
-abbrev pub is_open_at : Stage → Bool
-is_open_at Stages.Reads = true
-is_open_at Stages.Owes = true
-is_open_at Stages.Ended = false
-is_open_at Stages.Closed = false
-is_open_at Stages.ReadFailed = false
-is_open_at Stages.WriteFailed = false
-is_open_at Stages.Spent = true
+-- A further connection may be taken, where so many were accepted and so many of them are open.
+abbrev pub has_room : ℕ → ℕ → ℕ → Bool
+has_room most accepted opened = nat_lt accepted most && nat_lt opened most_open
 
--- a connection is not over
-abbrev pub is_open : ClientTold → Bool
-is_open link = is_open_at (stage_at link)
-
--- a connection is over
-abbrev pub is_over : ClientTold → Bool
-is_over link = not (is_open link)
-
--- the next request may be asked for at this stage
-abbrev pub reads_at : Stage → Bool
-reads_at Stages.Reads = true
-reads_at Stages.Owes = false
-reads_at Stages.Ended = false
-reads_at Stages.Closed = false
-reads_at Stages.ReadFailed = false
-reads_at Stages.WriteFailed = false
-reads_at Stages.Spent = false
-
--- the next request of a connection may be asked for
-abbrev pub reads : ClientTold → Bool
-reads link = reads_at (stage_at link)
-
--- where a connection stands as ended, a read told the end of what comes in on its wire
-abbrev pub EndIsTold : ClientTold → Type 0
-EndIsTold link = stage_at link ≡ Stages.Ended → link.seen.line.ended ≡ true
-
--- a further connection may be taken
-abbrev pub has_room : ℕ → List ClientTold → Bool
-has_room most links = nat_lt (length links) most && nat_lt (count_by is_open links) most_open
-
--- no connection can come any more
-abbrev pub closed_off : ℕ → List ListenerTold → List ClientTold → Bool
-closed_off most ports links = nat_le most (length links) || list_all (λ (p : ListenerTold). has_ended p.door) ports
-
--- No request came on a connection yet.
+-- No request of a connection was posted yet.
 pub record IsNewClient (IsMade : WireTold → Type 0) (link : ClientTold) : Type 0 where
   pub pending : link.pending ≡ None
-  pub stage : (stage_at link ≡ Stages.Reads) ⊎ IsOver (stage_at link)
+  pub unowed : stage_at link ≢ Stages.Owes
+  pub memory : stage_at link ≢ Stages.Spent
   pub first : WireTold
   pub made : IsMade first
   pub fresh : IsNewLine first
   pub talks : IsTalking first link.seen [] []
-  pub ended : EndIsTold link
 
 -- a connection came at the door of this lead, which leads to its service
 abbrev pub came_by : ClientTold → Lead → Bool
 came_by link lead = is_led link.seen.line.door link.service lead
 
--- no request came on these connections yet, each of which came at one of these doors and leads to its service
+-- no request of these connections was posted yet, each of which came at one of these doors and leads to its service
 abbrev pub AreNewLinks : (WireTold → Type 0) → List Lead → List ClientTold → Type 0
 AreNewLinks IsMade leads [] = Unit {0}
 AreNewLinks IsMade leads (l ∷ ls) =
     (list_any (came_by l) leads ≡ true) × IsNewClient IsMade l × AreNewLinks IsMade leads ls
 
--- A connection goes on without a request: it stays as it is, or it read and none comes any more.
+-- Some of these connections came at the first door, those after them at the next, and so on.
+abbrev pub CameInOrder : List Lead → List ClientTold → Type 0
+CameInOrder [] links = links ≡ []
+CameInOrder (d ∷ ds) links = (here : List ClientTold) × (others : List ClientTold) × (links ≡ here ++ others)
+    × (list_all (λ link. came_by link d) here ≡ true) × CameInOrder ds others
+
+-- A connection goes on while nothing is posted of it and nothing is told to it. Where an answer is pending or a request
+-- is whole, or where it is over, it stays as it is.
 pub record ClientGoesOn (before now : ClientTold) : Type 0 where
   pub service : now.service ≡ before.service
   pub pending : now.pending ≡ before.pending
-  pub stage : (stage_at now ≡ stage_at before) ⊎ ((stage_at before ≡ Stages.Reads) × IsOver (stage_at now))
-  pub owes : stage_at before ≡ Stages.Owes → now ≡ before
-  pub talks : (first : WireTold) (bodies : List (List ℕ)) (texts : List (Option (List ℕ)))
-      → IsTalking first before.seen bodies texts → IsTalking first now.seen bodies texts
-  pub ended : (first : WireTold) (bodies : List (List ℕ)) (texts : List (Option (List ℕ)))
-      → IsTalking first before.seen bodies texts → first.closed ≡ false → EndIsTold before → EndIsTold now
+  pub rests : IsAtRest (stage_at before) → now ≡ before
+  pub unowed : stage_at now ≡ Stages.Owes → stage_at before ≡ Stages.Owes
+  pub memory : stage_at now ≡ Stages.Spent → stage_at before ≡ Stages.Spent
+  pub waits : HasNotFallen before.waits now.waits
+  pub talks : TalksOn before.seen now.seen
 
--- connections go on without a request, and new ones came, at these doors
+-- connections go on, and new ones came, at these doors
 abbrev pub LinksGoOn : (WireTold → Type 0) → List Lead → List ClientTold → List ClientTold → Type 0
 LinksGoOn IsMade leads [] now = AreNewLinks IsMade leads now
 LinksGoOn IsMade leads (l ∷ ls) [] = ⊥
@@ -171,151 +140,254 @@ LinksGoOn IsMade leads (l ∷ ls) (m ∷ ms) = ClientGoesOn l m × LinksGoOn IsM
 
 -- ---- connections come
 
--- doors, and the connections that came
+-- doors, the connections that came, and the numbers of those that are open
 pub record Doorway : Type 0 where
-  pub ports : List ListenerTold
-  pub links : List ClientTold
+  pub doors : List ListenerTold
+  pub connections : List ClientTold
+  pub opened : List ℕ
 
 -- the same by its parts
-abbrev pub doorway : List ListenerTold → List ClientTold → Doorway
-doorway ports links = record { ports = ports; links = links }
+abbrev pub doorway : List ListenerTold → List ClientTold → List ℕ → Doorway
+doorway doors connections opened = record { doors = doors; connections = connections; opened = opened }
 
--- New connections came at doors.
+-- New connections came at doors, in the order of these.
 pub record TakesIn (IsMade : WireTold → Type 0) (most : ℕ) (before now : Doorway) : Type 0 where
-  pub goes : AllGoOn before.ports now.ports
+  pub goes : AllGoOn before.doors now.doors
   pub more : List ClientTold
-  pub grown : now.links ≡ before.links ++ more
-  pub fresh : AreNewLinks IsMade (map lead_of before.ports) more
-  pub within : length before.links ≤ most → length now.links ≤ most
-  pub wires : sum_by wires_of before.ports ≤ length before.links
-      → sum_by wires_of now.ports ≡ sum_by wires_of before.ports + length more
-  pub led : sum_by wires_of before.ports ≤ length before.links → (n : ℕ)
-      → sum_by (wires_to n) now.ports ≡ sum_by (wires_to n) before.ports + count_by (leads_to n) more
+  pub grown : now.connections ≡ before.connections ++ more
+  pub fresh : AreNewLinks IsMade (map lead_of before.doors) more
+  pub in_order : CameInOrder (map lead_of before.doors) more
+  pub ordered : (queue : List ℕ) → IsOrdered before.connections before.opened queue → IsOrdered now.connections now.opened queue
+  pub as_many : length now.opened ≡ length before.opened + length more
+  pub fits : (length more ≡ 0) ⊎ (length now.connections ≤ most)
+  pub wires : sum_by wires_of before.doors ≤ length before.connections
+      → sum_by wires_of now.doors ≡ sum_by wires_of before.doors + length more
+  pub led : sum_by wires_of before.doors ≤ length before.connections → (n : ℕ)
+      → sum_by (wires_to n) now.doors ≡ sum_by (wires_to n) before.doors + count_by (leads_to n) more
 
 -- They came until nobody comes or there is no more room.
 pub record Accepts (IsMade : WireTold → Type 0) (most : ℕ) (before now : Doorway) : Type 0 where
   pub takes : TakesIn IsMade most before now
-  pub tried : (has_room most now.links ≡ false) ⊎ AreTried before.ports now.ports
+  pub tried : (has_room most (length now.connections) (length now.opened) ≡ false) ⊎ AreTried before.doors now.doors
 
--- ---- a connection is read
+-- ---- connections are polled
 
--- the request that is pending an answer then, where this body came for a posting of this place
-abbrev pub pending_by : ℕ → Option (List ℕ) → Option PendingReply → Option PendingReply
-pending_by place None pending = pending
-pending_by place (Some body) pending = Some (record { place = place; read = posted body })
+-- Nothing comes of a connection for now, whose wire had waited so often before: a request of it has no answer yet, it is
+-- over, or its wire could move nothing yet.
+abbrev pub IsPaused : ℕ → ClientTold → Type 0
+IsPaused waits now = IsUnanswered (stage_at now) ⊎ (IsOver (stage_at now) ⊎ (added waits 1 ≤ now.waits))
 
--- A connection was asked for its next request, and this body came.
-pub record IsAsked (place : ℕ) (body : Option (List ℕ)) (before now : ClientTold) : Type 0 where
+-- A connection was polled.
+pub record IsPolled (before now : ClientTold) : Type 0 where
+  pub goes : ClientGoesOn before now
+  pub paused : IsPaused before.waits now
+
+-- connections, and the numbers of those that ask
+pub record Lined : Type 0 where
+  pub connections : List ClientTold
+  pub queue : List ℕ
+
+-- the same by its parts
+abbrev pub lined : List ClientTold → List ℕ → Lined
+lined connections queue = record { connections = connections; queue = queue }
+
+-- the number of a connection that asks now and did not before, else none
+abbrev pub newly : ℕ → ClientTold → ClientTold → List ℕ
+newly number before now = if not (asks before) && asks now then number ∷ [] else []
+
+-- The connection of a number was polled, which comes to the end of the queue where it came to ask.
+pub record IsPolledAt (number : ℕ) (before now : Lined) : Type 0 where
+  pub link : ClientTold
+  pub later : ClientTold
+  pub there : slice_get before.connections number ≡ Some link
+  pub set : now.connections ≡ slice_set before.connections number later
+  pub polled : IsPolled link later
+  pub line : now.queue ≡ before.queue ++ newly number link later
+
+-- each connection goes on
+abbrev pub ClientsGoOn : List ClientTold → List ClientTold → Type 0
+ClientsGoOn [] [] = Unit {0}
+ClientsGoOn [] (m ∷ ms) = ⊥
+ClientsGoOn (l ∷ ls) [] = ⊥
+ClientsGoOn (l ∷ ls) (m ∷ ms) = ClientGoesOn l m × ClientsGoOn ls ms
+
+-- connections came to the end of the queue, which did not ask before
+pub record LinesUp (connections : List ClientTold) (before now : List ℕ) : Type 0 where
+  pub more : List ℕ
+  pub line : now ≡ before ++ more
+  pub fresh : list_all (λ number. not (asks_there connections number)) more ≡ true
+
+-- of the connections that ask each stands in the queue once, and no other
+abbrev pub IsQueue : Lined → Type 0
+IsQueue l = (number : ℕ)
+    → count_by (nat_eq number) l.queue ≡ (if asks_there l.connections number then 1 else 0)
+
+-- nothing comes of the connection of a number for now
+abbrev pub IsPausedAt : List ClientTold → List ClientTold → ℕ → Type 0
+IsPausedAt before now number = (link later : ClientTold) → slice_get before number ≡ Some link
+    → slice_get now number ≡ Some later → IsPaused link.waits later
+
+-- The connections of these numbers were polled.
+pub record Polls (numbers : List ℕ) (before now : Lined) : Type 0 where
+  pub goes : ClientsGoOn before.connections now.connections
+  pub queued : IsQueue before → IsQueue now
+  pub paused : (number : ℕ) → list_any (nat_eq number) numbers ≡ true
+      → IsPausedAt before.connections now.connections number
+  pub line : LinesUp before.connections before.queue now.queue
+
+-- connections, the numbers of those that are open, and of those that ask
+pub record Queued : Type 0 where
+  pub connections : List ClientTold
+  pub opened : List ℕ
+  pub queue : List ℕ
+
+-- the same by its parts
+abbrev pub queued : List ClientTold → List ℕ → List ℕ → Queued
+queued connections opened queue = record { connections = connections; opened = opened; queue = queue }
+
+-- All open connections were polled.
+pub record PollsAll (before now : Queued) : Type 0 where
+  pub goes : ClientsGoOn before.connections now.connections
+  pub ordered : IsOrdered now.connections now.opened now.queue
+  pub paused : (number : ℕ) → IsPausedAt before.connections now.connections number
+  pub line : LinesUp before.connections before.queue now.queue
+  pub fewer : length now.opened ≤ length before.opened
+
+-- ---- a request is posted
+
+-- The request of a connection, which is whole and has this body, became the posting of this place.
+pub record IsAsked (place : ℕ) (body : List ℕ) (before now : ClientTold) : Type 0 where
   pub service : now.service ≡ before.service
-  pub pending : now.pending ≡ pending_by place body before.pending
-  pub stage : IsBehindAsking body (stage_at now)
+  pub pending : now.pending ≡ Some (record { place = place; read = posted body })
+  pub stage : stage_at now ≡ Stages.Owes
+  pub waits : now.waits ≡ before.waits
   pub talks : (first : WireTold) (bodies : List (List ℕ)) (texts : List (Option (List ℕ)))
-      → IsTalking first before.seen bodies texts → IsTalking first now.seen (bodies ++ handed body) texts
-  pub ended : (first : WireTold) (bodies : List (List ℕ)) (texts : List (Option (List ℕ)))
-      → IsTalking first before.seen bodies texts → first.closed ≡ false → EndIsTold now
+      → IsTalking first before.seen bodies texts → IsTalking first now.seen (bodies ++ body ∷ []) texts
 
--- what a connection answers to that: the posting of what its body says
-pub record Answers (place : ℕ) (came : Option Posting) (before now : ClientTold) : Type 0 where
-  pub body : Option (List ℕ)
-  pub posting : came ≡ option_map (λ body. posting_of (came_with before.service body)) body
+-- what a connection hands out then: the posting of what its body says
+pub record Answers (place : ℕ) (posting : Posting) (before now : ClientTold) : Type 0 where
+  pub body : List ℕ
+  pub posts : posting ≡ posting_of (came_with before.service body)
   pub asked : IsAsked place body before now
 
 -- connections, and of which of them each posting is
 pub record Listing : Type 0 where
-  pub links : List ClientTold
+  pub connections : List ClientTold
   pub traffics : List ℕ
 
 -- the same by its parts
 abbrev pub listing : List ClientTold → List ℕ → Listing
-listing links traffics = record { links = links; traffics = traffics }
+listing connections traffics = record { connections = connections; traffics = traffics }
 
--- The connection of a number, which is the first that read, was asked for its next request, and this body came.
-pub record AsksOne (number : ℕ) (body : Option (List ℕ)) (before now : Listing) : Type 0 where
+-- The connection of a number, which asked, was taken the request of this body.
+pub record AsksOne (number : ℕ) (body : List ℕ) (before now : Listing) : Type 0 where
   pub link : ClientTold
   pub later : ClientTold
-  pub there : slice_get before.links number ≡ Some link
-  pub read : stage_at link ≡ Stages.Reads
-  pub first : (k : ℕ) (l : ClientTold) → slice_get before.links k ≡ Some l → k < number → reads l ≡ false
+  pub there : slice_get before.connections number ≡ Some link
+  pub asking : stage_at link ≡ Stages.Asks
   pub asked : IsAsked (length before.traffics) body link later
-  pub set : now.links ≡ slice_set before.links number later
+  pub set : now.connections ≡ slice_set before.connections number later
 
--- A request came on a connection, and its posting is given.
-pub record Hands (p : Posting) (before now : Listing) : Type 0 where
-  pub number : ℕ
+-- The request of the connection of a number is posted.
+pub record Hands (number : ℕ) (p : Posting) (before now : Listing) : Type 0 where
   pub body : List ℕ
-  pub one : AsksOne number (Some body) before now
+  pub one : AsksOne number body before now
   pub posting : p ≡ posting_of (came_with one.link.service body)
   pub kept : now.traffics ≡ before.traffics ++ number ∷ []
 
--- A connection was asked, and no request of it comes any more.
-pub record EndsOne (before now : Listing) : Type 0 where
-  pub number : ℕ
-  pub one : AsksOne number None before now
-  pub kept : now.traffics ≡ before.traffics
-
--- No connection reads.
-pub record IsSilent (before now : Listing) : Type 0 where
-  pub none : list_any reads before.links ≡ false
-  pub still : now ≡ before
-
--- what a look at the connections came to
-abbrev pub Turned : Turn → Listing → Listing → Type 0
-Turned (turn.Posting p) before now = Hands p before now
-Turned turn.Over before now = EndsOne before now
-Turned turn.Idle before now = IsSilent before now
-
 -- ---- the whole call
 
--- the doors, the connections, and of which of these each posting is
+-- the doors, the connections, which of these are open and which ask, and of which each posting is
 pub record Going : Type 0 where
-  pub ports : List ListenerTold
-  pub links : List ClientTold
+  pub doors : List ListenerTold
+  pub connections : List ClientTold
+  pub opened : List ℕ
+  pub queue : List ℕ
   pub traffics : List ℕ
-
--- the same by its parts
-abbrev pub going : List ListenerTold → List ClientTold → List ℕ → Going
-going ports links traffics = record { ports = ports; links = links; traffics = traffics }
 
 -- the same of what a front keeps
 abbrev pub going_of : Keeping → Going
-going_of k = going k.ports k.links k.traffics
+going_of k = record {
+  doors = k.doors;
+  connections = k.connections;
+  opened = k.opened;
+  queue = k.queue;
+  traffics = k.traffics;
+}
 
--- Doors and connections went on without a request.
+-- the same by its parts
+abbrev pub going : List ListenerTold → List ClientTold → List ℕ → List ℕ → List ℕ → Going
+going doors connections opened queue traffics = record {
+  doors = doors;
+  connections = connections;
+  opened = opened;
+  queue = queue;
+  traffics = traffics;
+}
+
+-- Doors and connections went on while nothing was posted; whoever came to ask stands at the end of the queue.
 pub record Goes (IsMade : WireTold → Type 0) (most : ℕ) (before now : Going) : Type 0 where
-  pub ports : AllGoOn before.ports now.ports
-  pub links : LinksGoOn IsMade (map lead_of before.ports) before.links now.links
+  pub doors : AllGoOn before.doors now.doors
+  pub connections : LinksGoOn IsMade (map lead_of before.doors) before.connections now.connections
   pub traffics : now.traffics ≡ before.traffics
-  pub within : length before.links ≤ most → length now.links ≤ most
-  pub wires : sum_by wires_of before.ports ≡ length before.links → sum_by wires_of now.ports ≡ length now.links
-  pub led : sum_by wires_of before.ports ≡ length before.links
-      → AreLed before.ports before.links → AreLed now.ports now.links
+  pub line : LinesUp before.connections before.queue now.queue
+  pub ordered : IsOrdered before.connections before.opened before.queue → IsOrdered now.connections now.opened now.queue
+  pub within : length before.connections ≤ most → length now.connections ≤ most
+  pub wires : sum_by wires_of before.doors ≡ length before.connections → sum_by wires_of now.doors ≡ length now.connections
+  pub led : sum_by wires_of before.doors ≡ length before.connections
+      → AreLed before.doors before.connections → AreLed now.doors now.connections
 
--- They went on until no connection reads and nobody comes, or there is no more room.
+-- Nothing comes of a connection for now, whose wire had waited so often before: it waits for an answer, it is over, or
+-- its wire could move nothing yet.
+abbrev pub HasPaused : ℕ → ClientTold → Type 0
+HasPaused waits now = (stage_at now ≡ Stages.Owes) ⊎ (IsOver (stage_at now) ⊎ (added waits 1 ≤ now.waits))
+
+-- the same of each connection, of old ones and of those that came
+abbrev pub HavePaused : List ClientTold → List ClientTold → Type 0
+HavePaused [] [] = Unit {0}
+HavePaused [] (m ∷ ms) = HasPaused 0 m × HavePaused [] ms
+HavePaused (l ∷ ls) [] = ⊥
+HavePaused (l ∷ ls) (m ∷ ms) = HasPaused l.waits m × HavePaused ls ms
+
+-- They went on, and nothing comes for now: no request is whole, nothing comes of any connection, and nobody comes at any
+-- door, or there is no more room.
 pub record Rests (IsMade : WireTold → Type 0) (most : ℕ) (before now : Going) : Type 0 where
   pub goes : Goes IsMade most before now
-  pub silent : list_any reads now.links ≡ false
-  pub tried : (has_room most now.links ≡ false) ⊎ AreTried before.ports now.ports
+  pub none : now.queue ≡ []
+  pub paused : HavePaused before.connections now.connections
+  pub tried : (has_room most (length now.connections) (count_by is_open now.connections) ≡ false)
+      ⊎ AreTried before.doors now.doors
+  pub some : (closed_off most now.doors now.connections && all_owing now.connections) ≡ false
 
--- They went on until a request came.
+-- They went on until nothing comes any more: no request is whole, no connection can come, and each that is open waits
+-- for an answer.
+pub record Ends (IsMade : WireTold → Type 0) (most : ℕ) (before now : Going) : Type 0 where
+  pub goes : Goes IsMade most before now
+  pub none : now.queue ≡ []
+  pub over : closed_off most now.doors now.connections ≡ true
+  pub owing : all_owing now.connections ≡ true
+
+-- They went on until a request was whole, and the first of the queue is posted.
 pub record Posts (IsMade : WireTold → Type 0) (most : ℕ) (p : Posting) (before now : Going) : Type 0 where
   pub fewer : length before.traffics < most_postings
   pub mid : Going
   pub goes : Goes IsMade most before mid
-  pub hands : Hands p (listing mid.links mid.traffics) (listing now.links now.traffics)
-  pub still : now.ports ≡ mid.ports
+  pub number : ℕ
+  pub first : mid.queue ≡ number ∷ now.queue
+  pub hands : Hands number p (listing mid.connections mid.traffics) (listing now.connections now.traffics)
+  pub doors : now.doors ≡ mid.doors
+  pub opened : now.opened ≡ mid.opened
 
--- There is nothing yet, or nothing any more where no connection can come.
-abbrev pub Idles : Next → Bool → Type 0
-Idles (next.Posting p) over = ⊥
-Idles next.NotYet over = over ≡ false
-Idles next.End over = over ≡ true
+-- There was a rest, at the first door that has not ended, or else at the first of all.
+pub record HasRested (before now : List ListenerTold) : Type 0 where
+  pub mid : List ListenerTold
+  pub rested : now ≡ after_rest mid
+  pub goes : AllGoOn before mid
 
--- what the call came to
+-- What the call came to: the posting of the request that has been whole for longest, nothing yet, or nothing any more.
 abbrev pub Looks : (WireTold → Type 0) → ℕ → Next → Going → Going → Type 0
 Looks IsMade most (next.Posting p) before now = Posts IsMade most p before now
-Looks IsMade most next.NotYet before now =
-    Rests IsMade most before now × (closed_off most now.ports now.links ≡ false)
-    × (added (rests_at before.ports) 1 ≤ rests_at now.ports)
+Looks IsMade most next.NotYet before now = Rests IsMade most before now × HasRested before.doors now.doors
+    × (sum_by wires_of before.doors ≡ length before.connections → added (rests_at before.doors) 1 ≤ rests_at now.doors)
 Looks IsMade most next.End before now =
-    ((most_postings ≤ length before.traffics) × (now ≡ before))
-    ⊎ (Rests IsMade most before now × (closed_off most now.ports now.links ≡ true))
+    ((most_postings ≤ length before.traffics) × (now ≡ before)) ⊎ Ends IsMade most before now

@@ -1,35 +1,39 @@
 //! Connections come in at doors.
-ghost use Rattle.std.specs.Prelude.{◌≡◌, ◌∷◌, [], false, count_by, IfNone, IfSome, IfOk, MatchOption, None};
+ghost use Rattle.std.specs.Prelude.{◌≡◌, ◌∷◌, [], IfNone, IfSome, IfOk, MatchOption, None, length};
 ghost use Rattle.outside_doors.specs.Counts.{added, has_ended};
 ghost use Rattle.outside_doors.specs.Attempts.{ComesAt};
-ghost use Rattle.http_connection.specs.declared.stage.Stage.TheVariants as Stages;
-ghost use Rattle.http_connection.specs.Stages.{stage_of};
-ghost use Rattle.http_connection.specs.Talking.{IsTalking};
-ghost use Rattle.run_door_front.specs.NextSteps.{Accepts, GoesOn, IsTried, doorway, has_room as room, is_open as opened, rested_at};
+ghost use Rattle.conn_future.specs.declared.stage.Stage.TheVariants as Stages;
+ghost use Rattle.conn_future.specs.Stages.{stage_of};
+ghost use Rattle.conn_future.specs.Talking.{IsTalking};
+ghost use Rattle.run_door_front.specs.Keeping.{is_open as is_open_now};
+ghost use Rattle.run_door_front.specs.NextSteps.{Accepts, GoesOn, IsTried, doorway, has_room as room, rested_at};
 
 use crate::link::Client;
 use crate::port::Listener;
-use http_connection::{Connection, Stage};
+use conn_future::{ConnTask, Stage};
 use outside_doors::{Accept, Door};
-use outside_traits::{Failed, Wire};
+use outside_polling::PollWire;
+use outside_traits::Failed;
 use std::alloc::{AllocError, Global};
 
 /// The most connections that are open at once.
 const MOST_OPEN: usize = 1024;
 
-/// Takes in who comes at each door, in order. After want of memory nothing is sent of the doors and the connections.
+/// Takes in who comes at each door, in the order of the doors. After want of memory nothing is sent of the doors and the
+/// connections.
 pub(crate) fn accept_all<D: Door + Drop>(
     alloc: Global,
-    ports: &mut [Listener<D>],
-    links: &mut Vec<Client<D::W>>,
+    doors: &mut [Listener<D>],
+    connections: &mut Vec<Client<D::W>>,
+    opened: &mut Vec<usize>,
     most: u32,
 ) -> Result<(), AllocError>
-    ensures { IfOk result (λ _. Accepts (λ line. (wire : D.W) × (line ≡ D.W.told wire)) most
-        (doorway ports.old links.old.items)
-        (doorway ports.new links.new.items)) }
+    ensures { IfOk result (λ _. Accepts (λ line. (wire : D.W) × (line ≡ (D.W.told wire).wire)) most
+        (doorway doors.old connections.old.items opened.old.items)
+        (doorway doors.new connections.new.items opened.new.items)) }
 {
-    for port in ports.iter_mut() {
-        accept_at(alloc, port, links, most)?;
+    for door in doors.iter_mut() {
+        accept_at(alloc, door, connections, opened, most)?;
     }
     Ok(())
 }
@@ -37,35 +41,32 @@ pub(crate) fn accept_all<D: Door + Drop>(
 /// Takes in who comes at a door, until nobody does, it ends, or no further connection may be taken.
 fn accept_at<D: Door + Drop>(
     alloc: Global,
-    port: &mut Listener<D>,
-    links: &mut Vec<Client<D::W>>,
+    door: &mut Listener<D>,
+    connections: &mut Vec<Client<D::W>>,
+    opened: &mut Vec<usize>,
     most: u32,
 ) -> Result<(), AllocError>
-    ensures { IfOk result (λ _. Accepts (λ line. (wire : D.W) × (line ≡ D.W.told wire)) most
-        (doorway (port.old ∷ []) links.old.items)
-        (doorway (port.new ∷ []) links.new.items)) }
+    ensures { IfOk result (λ _. Accepts (λ line. (wire : D.W) × (line ≡ (D.W.told wire).wire)) most
+        (doorway (door.old ∷ []) connections.old.items opened.old.items)
+        (doorway (door.new ∷ []) connections.new.items opened.new.items)) }
 {
-    while has_room(links, most) {
-        match port.accept() {
+    while has_room(connections.len(), opened.len(), most) {
+        match door.accept() {
             None => return Ok(()),
-            Some(wire) => links.push(Client::new(alloc, port.service(), wire))?,
+            Some(wire) => {
+                opened.push(connections.len())?;
+                connections.push(Client::new(alloc, door.service(), wire))?;
+            }
         }
     }
     Ok(())
 }
 
-/// Whether a further connection may be taken.
-fn has_room<W: Wire + Drop>(links: &[Client<W>], most: u32) -> bool
-    ensures { result ≡ room most links.now }
+/// Whether a further connection may be taken, where so many were accepted and so many of them are open.
+fn has_room(accepted: usize, opened: usize, most: u32) -> bool
+    ensures { result ≡ room most accepted opened }
 {
-    links.len() < most as usize && open_count(links) < MOST_OPEN
-}
-
-/// How many connections are open.
-fn open_count<W: Wire + Drop>(links: &[Client<W>]) -> usize
-    ensures { result ≡ count_by opened links.now }
-{
-    links.iter().filter(|link| link.is_open()).count()
+    accepted < most as usize && opened < MOST_OPEN
 }
 
 impl<D: Door + Drop> Listener<D> {
@@ -117,27 +118,27 @@ impl<D: Door + Drop> Listener<D> {
     }
 }
 
-impl<W: Wire + Drop> Client<W> {
+impl<W: PollWire + Drop> Client<W> {
     /// A connection on which nothing passed yet.
     fn new(alloc: Global, service: u32, wire: W) -> Client<W>
         ensures service { result.service ≡ service }
         ensures pending { result.pending ≡ None }
         ensures stage { stage_of result.seen.kept.next ≡ Stages.Reads }
-        ensures talks { IsTalking (W.told wire) result.seen [] [] }
+        ensures talks { IsTalking (W.told wire).wire result.seen [] [] }
     {
         Client {
             service,
-            connection: Connection::new(alloc, wire),
+            task: ConnTask::new(alloc, wire),
             pending: None,
         }
     }
 
     /// Whether the connection is not over.
-    fn is_open(&self) -> bool
-        ensures { result ≡ opened self.now }
+    pub(crate) fn is_open(&self) -> bool
+        ensures { result ≡ is_open_now self.now }
     {
-        match self.connection.stage() {
-            Stage::Reads | Stage::Owes | Stage::Spent => true,
+        match self.task.stage() {
+            Stage::Reads | Stage::Asks | Stage::Owes | Stage::Writes | Stage::Spent => true,
             Stage::Ended | Stage::Closed | Stage::ReadFailed | Stage::WriteFailed => false,
         }
     }

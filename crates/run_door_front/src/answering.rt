@@ -1,21 +1,19 @@
 //! How the answer of a posting goes out on its connection.
 
-ghost use Rattle.std.specs.Prelude.{◌≡◌, true, false, ℕ, Ok, IfOk, MatchResult, option_copied, slice_get};
+ghost use Rattle.std.specs.Prelude.{◌≡◌, true, false, ℕ, Ok, IfOk, MatchResult, slice_get};
 ghost use Rattle.behaviour_tree.specs.PartsView.{parts_of};
-ghost use Rattle.http_connection.specs.declared.stage.Stage.TheVariants as Stages;
-ghost use Rattle.http_connection.specs.Seen.{seen};
-ghost use Rattle.http_connection.specs.Stages.{stage_of};
+ghost use Rattle.run_door_front.specs.Keeping.{owes as owes_answer};
 ghost use Rattle.run_door_front.specs.AnswerSteps.{told_of, owes as owing, is_pending as pending_at, awaited, awaited_at as one_awaited, Awaits, AwaitsNone};
-ghost use Rattle.run_door_front.specs.AnswerSteps.{IsTextOf, TellsText, HasTold, HasAnswered};
+ghost use Rattle.run_door_front.specs.AnswerSteps.{IsTextOf, HasTold, HasAnswered};
 
 use crate::kept::Kept;
 use crate::link::Client;
 use behaviour_tree::{Outcome, Program};
-use http_connection::{Connection, Stage};
-use jolie_trees::Text;
+use conn_future::Stage;
+use jolie_trees::{Bytes, Text};
 use jsonrpc_postings::response_to;
 use outside_doors::Door;
-use outside_traits::Wire;
+use outside_polling::PollWire;
 use std::alloc::{AllocError, Global};
 
 impl<D: Door + Drop> Kept<D> {
@@ -35,22 +33,30 @@ impl<D: Door + Drop> Kept<D> {
             (λ _. self.new.spent ≡ true) }
         ensures halted { self.new.halted ≡ self.old.halted }
     {
-        let Some(number) = awaited(&self.traffics, &self.links, place) else {
+        let Some(number) = awaited(&self.traffics, &self.connections, place) else {
             return Ok(());
         };
+        let spent = self.spent;
         self.spent = true;
-        self.links[number].answer(alloc, program, outcomes)?;
-        self.spent = false;
+        self.connections[number].answer(alloc, program, outcomes)?;
+        self.spent = spent;
         Ok(())
     }
 }
 
-impl<W: Wire + Drop> Client<W> {
+impl<W: PollWire + Drop> Client<W> {
+    /// Whether the connection waits for an answer.
+    pub(crate) fn owes_answer(&self) -> bool
+        ensures { result ≡ owes_answer self.now }
+    {
+        self.task.stage() == Stage::Owes
+    }
+
     /// Whether the connection owes the answer of the posting of a place.
     fn owes(&self, place: u32) -> bool
         ensures { result ≡ owing place self.now }
     {
-        self.connection.stage() == Stage::Owes && self.is_pending(place)
+        self.owes_answer() && self.is_pending(place)
     }
 
     /// Whether the request that has no answer yet is that of the posting of a place.
@@ -75,8 +81,10 @@ impl<W: Wire + Drop> Client<W> {
             → IfOk result (λ _. HasTold (parts_of program.now) (told_of place outcomes.now) self.old self.new) }
     {
         let text = self.text_of(alloc, program, outcomes)?;
+        let said = bytes_of(alloc, &text)?;
         self.pending = None;
-        tell(&mut self.connection, bytes_of(&text))
+        self.task.give(said);
+        Ok(())
     }
 
     /// The text that answers the request whose answer the connection owes.
@@ -98,41 +106,39 @@ impl<W: Wire + Drop> Client<W> {
 }
 
 /// Which connection has the posting of a place and owes its answer.
-fn awaited<W: Wire + Drop>(traffics: &[usize], links: &[Client<W>], place: u32) -> Option<usize>
-    ensures { result ≡ awaited place links.now traffics.now }
+fn awaited<W: PollWire + Drop>(
+    traffics: &[usize],
+    connections: &[Client<W>],
+    place: u32,
+) -> Option<usize>
+    ensures { result ≡ awaited place connections.now traffics.now }
 {
     match traffics.get(place as usize) {
-        Some(number) => awaited_at(links, *number, place),
+        Some(number) => awaited_at(connections, *number, place),
         None => None,
     }
 }
 
 /// The number of a connection, where it owes the answer of the posting of a place.
-fn awaited_at<W: Wire + Drop>(links: &[Client<W>], number: usize, place: u32) -> Option<usize>
-    ensures { result ≡ one_awaited place number (slice_get links.now number) }
+fn awaited_at<W: PollWire + Drop>(
+    connections: &[Client<W>],
+    number: usize,
+    place: u32,
+) -> Option<usize>
+    ensures { result ≡ one_awaited place number (slice_get connections.now number) }
 {
-    match links.get(number) {
-        Some(link) if link.owes(place) => Some(number),
+    match connections.get(number) {
+        Some(connection) if connection.owes(place) => Some(number),
         _ => None,
     }
 }
 
 /// The bytes of a text, where there is one.
-fn bytes_of(text: &Option<Text>) -> Option<&[u8]>
-    ensures { option_copied result ≡ text.now }
+fn bytes_of(alloc: Global, text: &Option<Text>) -> Result<Option<Bytes>, AllocError>
+    ensures { IfOk result (λ bytes. bytes ≡ text.now) }
 {
     match text {
-        None => None,
-        Some(text) => Some(text.as_str().as_bytes()),
+        None => Ok(None),
+        Some(text) => Ok(Some(Bytes::from_slice(alloc, text.as_str().as_bytes())?)),
     }
-}
-
-/// Tells a text to a connection that owes an answer.
-fn tell<W: Wire>(connection: &mut Connection<W>, text: Option<&[u8]>) -> Result<(), AllocError>
-    requires { stage_of connection.old.kept.next ≡ Stages.Owes }
-    ensures { IfOk result (λ _. TellsText (option_copied text.entry)
-        (seen connection.old.kept (W.told connection.old.wire))
-        (seen connection.new.kept (W.told connection.new.wire))) }
-{
-    connection.answer(text)
 }

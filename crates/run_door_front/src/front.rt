@@ -31,7 +31,7 @@ impl<'a, D: Door + Drop, N: Sink> DoorFront<'a, D, N> {
         ensures same_notes { result.notes.ghost_name ≡ notes.entry.ghost_name }
         ensures begun { (parts : ProgramParts)
             → list_all (λ n. nat_lt n (length parts.services)) (services_of result.kept.now) ≡ true
-            → (d : Exchange) × IsNew d × MayHaveExchanged (λ line. (wire : D.W) × (line ≡ D.W.told wire)) parts
+            → (d : Exchange) × IsNew d × MayHaveExchanged (λ line. (wire : D.W) × (line ≡ (D.W.told wire).wire)) parts
             (sides_of result.kept.now (N.told result.notes.now))
             (sides_of result.kept.now (N.told result.notes.now))
             d }
@@ -44,7 +44,7 @@ impl<'a, D: Door + Drop, N: Sink> Front for DoorFront<'a, D, N> {
     ghost exchanged = { λ parts first now d.
         (now.kept.ghost_name ≡ first.kept.ghost_name)
         × (now.notes.ghost_name ≡ first.notes.ghost_name)
-        × MayHaveExchanged (λ line. (wire : D.W) × (line ≡ D.W.told wire)) parts
+        × MayHaveExchanged (λ line. (wire : D.W) × (line ≡ (D.W.told wire).wire)) parts
         (sides_of first.kept.now (N.told first.notes.now))
         (sides_of now.kept.now (N.told now.notes.now))
         d };

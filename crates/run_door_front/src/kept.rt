@@ -1,6 +1,6 @@
 //! What a front over doors keeps.
 ghost use Rattle.std.specs.Prelude.{◌≡◌, [], true, false};
-ghost use Rattle.run_door_front.specs.Keeping.{Keeping};
+ghost use Rattle.run_door_front.specs.Keeping.{Keeping, IsOrdered};
 
 use crate::link::Client;
 use crate::port::Listener;
@@ -8,12 +8,15 @@ use outside_doors::Door;
 use std::alloc::Global;
 use std::marker::Model;
 
-/// What a front over doors keeps: its doors, its connections in the order in which they were accepted, of which of them
+/// What a front over doors keeps: its doors, its connections in the order in which they were accepted, the numbers of
+/// those that are open and of those whose request is whole, in the order in which these became so, of which connection
 /// each posting is, how many it accepts at most, whether it halted, and whether memory ran out.
 #[derive(Drop)]
 pub struct Kept<D: Door + Drop> {
-    pub(crate) ports: Vec<Listener<D>>,
-    pub(crate) links: Vec<Client<D::W>>,
+    pub(crate) doors: Vec<Listener<D>>,
+    pub(crate) connections: Vec<Client<D::W>>,
+    pub(crate) opened: Vec<usize>,
+    pub(crate) queue: Vec<usize>,
     pub(crate) traffics: Vec<usize>,
     pub(crate) most: u32,
     pub(crate) halted: bool,
@@ -21,37 +24,46 @@ pub struct Kept<D: Door + Drop> {
 }
 
 impl<D: Door + Drop> Model for Kept<D> {
+    ghost use Rattle.std.specs.Prelude.{◌≡◌, false};
     ghost use Rattle.std.specs.Coded.{codes};
     ghost use Rattle.jolie_trees.specs.contracts.tree.Tree as tree;
-    ghost use Rattle.run_door_front.specs.Keeping.{Keeping};
+    ghost use Rattle.run_door_front.specs.Keeping.{Keeping, IsOrdered};
 
     ghost Value = { Keeping };
 
     ghost coded = { Prim.hlevel (codes, tree.the_row.coded) };
 
     ghost view = { λ k. record {
-      ports = k.ports.items;
-      links = k.links.items;
+      doors = k.doors.items;
+      connections = k.connections.items;
+      opened = k.opened.items;
+      queue = k.queue.items;
       traffics = k.traffics.items;
       most = k.most;
       halted = k.halted;
       spent = k.spent;
     } };
+
+    ghost invariant = { λ k. k.spent ≡ false → IsOrdered k.connections.items k.opened.items k.queue.items };
 }
 
 impl<D: Door + Drop> Kept<D> {
     /// With these doors, and before anything came. So many connections are accepted at most.
-    pub fn new(alloc: Global, ports: Vec<Listener<D>>, most: u32) -> Kept<D>
-        ensures ports { result.ports ≡ ports.items }
-        ensures links { result.links ≡ [] }
+    pub fn new(alloc: Global, doors: Vec<Listener<D>>, most: u32) -> Kept<D>
+        ensures doors { result.doors ≡ doors.items }
+        ensures connections { result.connections ≡ [] }
+        ensures opened { result.opened ≡ [] }
+        ensures queue { result.queue ≡ [] }
         ensures traffics { result.traffics ≡ [] }
         ensures most { result.most ≡ most }
         ensures halted { result.halted ≡ false }
         ensures spent { result.spent ≡ false }
     {
         Kept {
-            ports,
-            links: Vec::new(alloc),
+            doors,
+            connections: Vec::new(alloc),
+            opened: Vec::new(alloc),
+            queue: Vec::new(alloc),
             traffics: Vec::new(alloc),
             most,
             halted: false,
@@ -82,17 +94,19 @@ impl<D: Door + Drop> Kept<D> {
 
     /// The doors and the connections.
     pub fn into_parts(self) -> (Vec<Listener<D>>, Vec<Client<D::W>>)
-        ensures ports { result.0.items ≡ self.ports }
-        ensures links { result.1.items ≡ self.links }
+        ensures doors { result.0.items ≡ self.doors }
+        ensures connections { result.1.items ≡ self.connections }
     {
         let Kept {
-            ports,
-            links,
+            doors,
+            connections,
+            opened: _,
+            queue: _,
             traffics: _,
             most: _,
             halted: _,
             spent: _,
         } = self;
-        (ports, links)
+        (doors, connections)
     }
 }

@@ -3,12 +3,13 @@
 
 mod accepting;
 mod answering;
+mod draining;
 mod front;
 mod kept;
 mod link;
 mod next;
+mod polling;
 mod port;
-mod reading;
 
 pub use front::DoorFront;
 pub use kept::Kept;

@@ -1,9 +1,11 @@
 //! The connections of a run.
 ghost use Rattle.std.specs.Prelude.{◌≡◌, None};
+ghost use Rattle.outside_polling.specs.Polls.{shut_so};
+ghost use Rattle.run_door_front.specs.Keeping.{told_of_wire};
 
-use http_connection::Connection;
+use conn_future::{ConnTask, Traffic};
 use jsonrpc_text::Read;
-use outside_traits::Wire;
+use outside_polling::PollWire;
 use std::marker::Model;
 
 /// The request of a connection that has no answer yet: the place of its posting, and what it says.
@@ -15,14 +17,14 @@ pub(crate) struct PendingReply {
 
 /// A connection of a run, the service of its door, and the request that is pending an answer, where one is.
 #[derive(Drop)]
-pub struct Client<W: Wire + Drop> {
+pub struct Client<W: PollWire + Drop> {
     pub(crate) service: u32,
-    pub(crate) connection: Connection<W>,
+    pub(crate) task: ConnTask<W>,
     pub(crate) pending: Option<PendingReply>,
 }
 
-impl<W: Wire + Drop> Model for Client<W> {
-    ghost use Rattle.http_connection.specs.Seen.{seen};
+impl<W: PollWire + Drop> Model for Client<W> {
+    ghost use Rattle.conn_future.specs.Talking.{seen};
     ghost use Rattle.std.specs.Coded.{codes};
     ghost use Rattle.jolie_trees.specs.contracts.tree.Tree as tree;
     ghost use Rattle.run_door_front.specs.Keeping.{ClientTold};
@@ -33,23 +35,26 @@ impl<W: Wire + Drop> Model for Client<W> {
 
     ghost view = { λ l. record {
       service = l.service;
-      seen = seen l.connection.kept (W.told l.connection.wire);
+      seen = seen l.task.kept (W.told l.task.wire);
+      waits = (W.told l.task.wire).waits;
       pending = l.pending;
     } };
 }
 
-impl<W: Wire + Drop> Client<W> {
-    /// The wire, the bytes that were read and the bytes that were written.
+impl<W: PollWire + Drop> Client<W> {
+    /// The wire, which is closed, the bytes that were read and the bytes that were written.
     pub fn into_parts(self) -> (W, Vec<u8>, Vec<u8>)
-        ensures wire { W.told result.0 ≡ self.seen.line }
+        ensures wire { W.told result.0 ≡ shut_so (told_of_wire self) }
         ensures read { result.1 ≡ self.seen.kept.read }
         ensures written { result.2 ≡ self.seen.kept.written }
     {
         let Client {
             service: _,
-            connection,
+            task,
             pending: _,
         } = self;
-        connection.into_parts()
+        let (traffic, wire) = task.into_parts();
+        let Traffic { read, written } = traffic;
+        (wire, read, written)
     }
 }

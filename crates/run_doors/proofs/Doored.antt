@@ -29,14 +29,16 @@ use Rattle.run_theorem.specs.Ports.{DoorAt, doors_of, has_door}
 use Rattle.run_theorem.specs.RunConnections.{RunConnection}
 use Rattle.run_door_front.specs.Keeping.{ListenerTold, Keeping, AreNew, IsEmpty, services_of}
 use Rattle.run_door_front.specs.Exchanged.{Sides, HasExchanged, MayHaveExchanged}
+use Rattle.run_door_front.specs.Draining.{HaveDrained}
+use Rattle.run_door_front.proofs.Closing.{exchanged_later, later as kept_later}
 use Rattle.run_theorem.specs.declared.ended.Ended.{Ended}
 use Rattle.run_theorem.specs.Used.{Used, AreInOrder, IsUsed, RoseBy, came_at_door, leads_by, leads_to, wires_to, has_failed, with_wires, with_doors, tries_at}
 use Rattle.run_theorem.specs.Theorem.{Task, Outside, Around, rules_of, HasStatus, AreNoted, RanProgram, IsDoored}
-use Rattle.run_doors.specs.Steps.{Opens, opened_by, ports_at, GivesBack, traffic_of, wire_of, door_of, some_failed, with_traffic, status_of}
+use Rattle.run_doors.specs.Steps.{Opens, opened_by, ports_at, GivesBack, BackTold, Closes, traffic_of, wire_of, door_of, some_failed, with_traffic, status_of}
 use Rattle.run_doors.proofs.Lists.{length_map, all_map}
 use Rattle.run_doors.proofs.Leading.{service_at, service_in, place_in, wires_at, leads_at, any_led, leads_as, same_first, same_rest}
 use Rattle.run_doors.proofs.Serving.{served_so, as_many, given_long}
-use Rattle.run_doors.proofs.Wires.{wires_are}
+use Rattle.run_doors.proofs.Wires.{wires_are, written_out}
 use Rattle.run_doors.proofs.Ending.{noted_so, notes_failed_so, through_so}
 use Rattle.run_doors.proofs.Telling.{rose_then, rose_some, stood_unfailed}
 use Rattle.run_doors.proofs.Openings.{all_marked, any_marked, all_from}
@@ -76,7 +78,7 @@ services_at tally (p ∷ ps) = ap (λ l. p.service ∷ l) (services_at (with_ope
 
 -- of the doors that were opened each leads to a service of the program
 pub within_so : (t : Task) (tally : Tally) (opened : List Bool) (kept : Keeping)
-    → kept.ports ≡ ports_at tally (items_where_true opened (doors_of t.parts))
+    → kept.doors ≡ ports_at tally (items_where_true opened (doors_of t.parts))
     → list_all (λ n. nat_lt n (length t.parts.services)) (services_of kept) ≡ true
 within_so t tally opened kept ports =
     ap (λ ps. list_all (λ n. nat_lt n (length t.parts.services)) (map service_in ps)) ports
@@ -129,10 +131,10 @@ outside_of source output doors notes link =
 
 module _ {new : Exchange} (IsMade : WireTold → Type 0) (most_accepted : ℕ) (t : Task) (before mid after : DoorsTold) (ports : List ListenerTold) (failed : Bool)
     (o : Opens (doors_of t.parts) (opened_by before [] false) (opened_by mid ports failed))
-    (first now : Sides) (begins : first.kept.ports ≡ ports) (most : first.kept.most ≡ most_accepted)
+    (first now : Sides) (begins : first.kept.doors ≡ ports) (most : first.kept.most ≡ most_accepted)
     (d : Exchange) (finished : Finished) (ran : Ran (rules_of t) t.text new d finished) (f : HasExchanged IsMade t.parts first now d)
-    (picked : TookPicks (rules_of t) t.picks finished.report)
-    (back : GivesBack (map wire_of now.kept.links) (map door_of now.kept.ports) mid after) where
+    (picked : TookPicks (rules_of t) t.picks finished.report) (drained : d.sent.halted ≡ false → HaveDrained now.kept.connections)
+    (back : GivesBack (map wire_of now.kept.connections) (map door_of now.kept.doors) mid after) where
   -- the history
   abbrev h : List Entry
   h = finished.report.history.entries.items
@@ -143,9 +145,9 @@ module _ {new : Exchange} (IsMade : WireTold → Type 0) (most_accepted : ℕ) (
 
   -- what was done with doors
   abbrev used : Used
-  used = record { opened = o.opened; doors = map door_of now.kept.ports; wires = map wire_of now.kept.links }
+  used = record { opened = o.opened; doors = map door_of now.kept.doors; wires = map wire_of now.kept.connections }
 
-  begins_opened : first.kept.ports ≡ ports_at before.tally opened
+  begins_opened : first.kept.doors ≡ ports_at before.tally opened
   begins_opened = begins ∙ o.ports
 
   -- the services of the doors
@@ -153,20 +155,20 @@ module _ {new : Exchange} (IsMade : WireTold → Type 0) (most_accepted : ℕ) (
   services_now = f.services ∙ ap (map service_in) begins_opened ∙ services_at before.tally opened
 
   -- each door came back
-  back_so : length (map door_of now.kept.ports) ≡ length opened
+  back_so : length (map door_of now.kept.doors) ≡ length opened
   back_so =
-      length_map door_of now.kept.ports ∙ sym (length_map service_in now.kept.ports)
+      length_map door_of now.kept.doors ∙ sym (length_map service_in now.kept.doors)
       ∙ ap length services_now ∙ length_map service_at opened
 
   given_so : sum_by (λ (door : DoorTold). door.wires) used.doors ≡ length used.wires
-  given_so = wires_by now.kept.ports ∙ f.came_in ∙ sym (length_map wire_of now.kept.links)
+  given_so = wires_by now.kept.doors ∙ f.came_in ∙ sym (length_map wire_of now.kept.connections)
 
   -- what the doors tell
   uses_so : IsUsed (doors_of t.parts) before after used
   uses_so = record {
     tried = o.tried;
     back = back_so;
-    in_order = in_order_by before.tally opened now.kept.ports (f.in_place ∙ ap (map place_in) begins_opened);
+    in_order = in_order_by before.tally opened now.kept.doors (f.in_place ∙ ap (map place_in) begins_opened);
     given = given_so;
     tally =
         back.doors_then.tally ∙ ap (with_doors used.doors) back.wires_first.tally
@@ -184,11 +186,11 @@ module _ {new : Exchange} (IsMade : WireTold → Type 0) (most_accepted : ℕ) (
   -- each connection came at a door that was opened
   at_doors : list_all (came_at_door (leads_by opened used.doors)) f.connections ≡ true
   at_doors =
-      subst (λ leads. list_all (came_at_door leads) f.connections ≡ true) (leads_at opened now.kept.ports services_now) f.doors
+      subst (λ leads. list_all (came_at_door leads) f.connections ≡ true) (leads_at opened now.kept.doors services_now) f.at_doors
 
   -- to each service lead as many connections as its doors gave
   led_so : (n : ℕ) → wires_to n opened used.doors ≡ count_by (leads_to n) f.connections
-  led_so n = wires_at n opened now.kept.ports services_now ∙ f.led n ∙ leads_as IsMade n now.kept.links f.connections f.links
+  led_so n = wires_at n opened now.kept.doors services_now ∙ f.led n ∙ leads_as IsMade n now.kept.connections f.connections f.clients
 
   abbrev doors_so : list_all (λ (connection : RunConnection). has_door t.parts connection.service) f.connections ≡ true
   doors_so =
@@ -221,13 +223,13 @@ module _ {new : Exchange} (IsMade : WireTold → Type 0) (most_accepted : ℕ) (
   abbrev pub ended : Ended
   ended = record {
     status = status_of d.sent.halted (some_failed used) finished.spent;
-    report = with_traffic finished.report (map traffic_of now.kept.links);
+    report = with_traffic finished.report (map traffic_of now.kept.connections);
   }
 
   accepted : length f.connections ≤ most_accepted
   accepted =
-      subst (λ n. n ≤ most_accepted) (as_many IsMade now.kept.links f.connections f.links)
-      (subst (λ n. length now.kept.links ≤ n) (f.most ∙ most) f.accepted)
+      subst (λ n. n ≤ most_accepted) (as_many IsMade now.kept.connections f.connections f.clients)
+      (subst (λ n. length now.kept.connections ≤ n) (f.most ∙ most) f.accepted)
 
   module _ (source : SourceTold) (output : SinkTold) (link link_now : LinkTold) (travelled : Travelled (run_of t.parts) h link link_now) where
     -- the outside before and after
@@ -244,8 +246,8 @@ module _ {new : Exchange} (IsMade : WireTold → Type 0) (most_accepted : ℕ) (
           (rose_some not has_failed o.opened used.doors before.faults after.faults uses_so.faults)
           (stood_unfailed not has_failed o.opened used.doors before.faults after.faults uses_so.faults);
       spent = (
-        λ e. spent_with (run_of t.parts) t.budget finished.report (map traffic_of now.kept.links) (ran.spent.0 e),
-        λ more. ran.spent.1 (spent_without (run_of t.parts) t.budget finished.report (map traffic_of now.kept.links) more),
+        λ e. spent_with (run_of t.parts) t.budget finished.report (map traffic_of now.kept.connections) (ran.spent.0 e),
+        λ more. ran.spent.1 (spent_without (run_of t.parts) t.budget finished.report (map traffic_of now.kept.connections) more),
       );
       is = refl;
     }
@@ -253,7 +255,7 @@ module _ {new : Exchange} (IsMade : WireTold → Type 0) (most_accepted : ℕ) (
     abbrev ran_so : RanProgram t a ended
     ran_so = record {
       status = status_so;
-      run = run_with (run_of t.parts) t.budget finished.report (map traffic_of now.kept.links) alone d.sent.halted
+      run = run_with (run_of t.parts) t.budget finished.report (map traffic_of now.kept.connections) alone d.sent.halted
           (subst (λ m. IsRun (run_of t.parts) t.budget alone m finished.report) f.sent.notes_failed ran.run);
       program = ran.program;
       came = f.all.came;
@@ -281,18 +283,19 @@ module _ {new : Exchange} (IsMade : WireTold → Type 0) (most_accepted : ℕ) (
         uses = uses_so;
         came = at_doors;
         led = led_so;
-        wires = wires_are IsMade now.kept.links f.connections f.links;
+        wires = wires_are IsMade now.kept.connections f.connections f.clients;
       };
+      written = λ running. written_out IsMade now.kept.connections f.connections f.clients (drained running);
       through = λ running below.
-          through_so IsMade t.parts h first now d f ran.exchanged most_accepted (f.most ∙ most) running
+          through_so IsMade t.parts h first now d f ran.exchanged o.opened most_accepted (f.most ∙ most) running
           (subst (λ n. n < most_postings) came_long below);
     }
 
   -- ---- by other words
 
   -- whether a door failed, by what was seen of it
-  pub failed_is : (failed || list_any has_failed (map door_of now.kept.ports)) ≡ some_failed used
-  failed_is = ap (λ x. x || list_any has_failed (map door_of now.kept.ports)) o.failed
+  pub failed_is : (failed || list_any has_failed (map door_of now.kept.doors)) ≡ some_failed used
+  failed_is = ap (λ x. x || list_any has_failed (map door_of now.kept.doors)) o.failed
 
 -- the end of a run by its parts
 ended_by : (it : Ended) (n : ℕ) (run : Record) → it.status ≡ n → it.report ≡ run → record { status = n; report = run } ≡ it
@@ -316,14 +319,15 @@ exchanged_so IsMade parts first now d unspent (inr f) = f
 
 -- what came of the doors and of what the front kept
 pub record Ends (failed : Bool) (mid after : DoorsTold) (kept : Keeping) (finished : Finished) (it : Ended) : Type 0 where
-  pub back : GivesBack (map wire_of kept.links) (map door_of kept.ports) mid after
-  pub status : it.status ≡ status_of kept.halted (failed || list_any has_failed (map door_of kept.ports)) finished.spent
-  pub report : it.report ≡ with_traffic finished.report (map traffic_of kept.links)
+  pub back : BackTold
+  pub closes : Closes kept back mid after
+  pub status : it.status ≡ status_of kept.halted (failed || back.failed) finished.spent
+  pub report : it.report ≡ with_traffic finished.report back.traffic
 
 -- the whole by its parts
 pub doored_by : {new : Exchange} (IsMade : WireTold → Type 0) (most_accepted : ℕ) (t : Task) (before mid after : DoorsTold) (ports : List ListenerTold) (failed : Bool)
     (o : Opens (doors_of t.parts) (opened_by before [] false) (opened_by mid ports failed))
-    (first now : Sides) (begins : first.kept.ports ≡ ports) (most : first.kept.most ≡ most_accepted)
+    (first now : Sides) (begins : first.kept.doors ≡ ports) (most : first.kept.most ≡ most_accepted)
     (d : Exchange) (finished : Finished) (ran : Ran (rules_of t) t.text new d finished)
     (may : MayHaveExchanged IsMade t.parts first now d) (unspent : now.kept.spent ≡ false)
     (picked : TookPicks (rules_of t) t.picks finished.report) (it : Ended) (ends : Ends failed mid after now.kept finished it)
@@ -332,17 +336,22 @@ pub doored_by : {new : Exchange} (IsMade : WireTold → Type 0) (most_accepted :
     → outside_of source output before first.notes link ≡ former → outside_of source output after now.notes link_now ≡ later
     → IsDoored IsMade most_accepted t (record { before = former; now = later }) it
 doored_by IsMade most_accepted t before mid after ports failed o first now begins most d finished ran may unspent picked it ends source output link link_now travelled former later w l =
-    let f = exchanged_so IsMade t.parts first now d unspent may in
-    let halted : now.kept.halted ≡ d.sent.halted = sym f.sent.halted in
-    let doors = failed_is IsMade most_accepted t before mid after ports failed o first now begins most d finished ran f picked ends.back in
+    let whole = exchanged_so IsMade t.parts first now d unspent may in
+    let c = ends.closes in
+    let then : Sides = record { kept = kept_later IsMade t.parts first now.kept now.notes d c.ports c.connections c.drains.doors c.drains.connections; notes = now.notes } in
+    let f : HasExchanged IsMade t.parts first then d =
+    exchanged_later IsMade t.parts first now.kept now.notes d c.ports c.connections c.drains.doors c.drains.connections whole in
+    let halted : now.kept.halted ≡ d.sent.halted = sym whole.sent.halted in
+    let drained : d.sent.halted ≡ false → HaveDrained c.connections = λ running. c.drains.drained (halted ∙ running) in
+    let doors = failed_is IsMade most_accepted t before mid after ports failed o first then begins most d finished ran f picked drained c.gives in
     doored-as IsMade most_accepted t (outside_of source output before first.notes link) former (outside_of source output after now.notes link_now) later
-    (ended IsMade most_accepted t before mid after ports failed o first now begins most d finished ran f picked ends.back) it w l
+    (ended IsMade most_accepted t before mid after ports failed o first then begins most d finished ran f picked drained c.gives) it w l
     (ended_by it _ _
     (ends.status
-    ∙ ap (λ x. status_of x (failed || list_any has_failed (map door_of now.kept.ports)) finished.spent) halted
-    ∙ ap (λ x. status_of d.sent.halted x finished.spent) doors)
-    ends.report)
-    (doored_so IsMade most_accepted t before mid after ports failed o first now begins most d finished ran f picked ends.back source output link link_now travelled)
+    ∙ ap (λ x. status_of x (failed || ends.back.failed) finished.spent) halted
+    ∙ ap (λ x. status_of d.sent.halted x finished.spent) (ap (λ x. failed || x) c.failed ∙ doors))
+    (ends.report ∙ ap (with_traffic finished.report) c.traffic))
+    (doored_so IsMade most_accepted t before mid after ports failed o first then begins most d finished ran f picked drained c.gives source output link link_now travelled)
 
 -- ---- the front at the beginning
 
@@ -351,11 +360,11 @@ new_ports tally [] = tt
 new_ports tally (p ∷ ps) = (refl, new_ports (with_opened tally) ps)
 
 -- nothing came yet
-pub empty_so : (kept : Keeping) (tally : Tally) (places : List DoorAt) → kept.ports ≡ ports_at tally places → kept.links ≡ []
+pub empty_so : (kept : Keeping) (tally : Tally) (places : List DoorAt) → kept.doors ≡ ports_at tally places → kept.connections ≡ []
     → kept.traffics ≡ [] → kept.halted ≡ false → kept.spent ≡ false → IsEmpty kept
-empty_so kept tally places ports links traffics halted spent = record {
-  ports = subst AreNew (sym ports) (new_ports tally places);
-  links = links;
+empty_so kept tally places ports connections traffics halted spent = record {
+  doors = subst AreNew (sym ports) (new_ports tally places);
+  connections = connections;
   traffics = traffics;
   halted = halted;
   spent = spent;

@@ -3,7 +3,6 @@ use Rattle.std.proofs.Common.{◌≡◌, ◌≢◌, ◌<◌, ◌≤◌, ℕ, zer
 use Rattle.std.proofs.Common.{refl, sym, ap, subst, ◌∙◌, arith, ◌⊎◌, inl, inr, ⊎_elim, true≢false, count_by, nat_eq, nat_lt}
 use Rattle.std.proofs.Common.{Option, Some, option_map, slice_get, Contains}
 use Rattle.std.specs.List.{list_all, list_any, AllZip}
-use Rattle.std.proofs.lemmas.Bool.{ltb-true, ltb-false}
 use Rattle.behaviour_tree.specs.Data.{ProgramParts}
 use Rattle.office_core.specs.declared.history.Entry.{Entry}
 use Rattle.office_core.specs.Limits.{run_of, first_worker}
@@ -19,15 +18,14 @@ use Rattle.jsonrpc_postings.proofs.Responses.{response_told-of}
 use Rattle.run_alone.specs.Ran.{Exchanged}
 use Rattle.run_theorem.specs.Ports.{has_door}
 use Rattle.run_theorem.specs.RunConnections.{RunConnection, came_at, HasPassed}
-use Rattle.run_theorem.specs.Served.{AreOneByOne, HadToWait, AreInTurn, AreToldEarly, IsServed, is_told}
-use Rattle.http_connection.specs.Stages.{IsOver}
+use Rattle.run_theorem.specs.Served.{AreOneByOne, AreToldEarly, IsServed, is_told}
 use Rattle.http_connection.specs.Law.{holding, Keeps}
 use Rattle.http_connection.specs.Talking.{log}
 use Rattle.outside_traits.specs.Told.{WireTold}
-use Rattle.http_connection.proofs.Words.{keeps_word}
+use Rattle.conn_future.specs.Law.{plain_stage}
+use Rattle.conn_future.proofs.Words.{keeps_word}
 use Rattle.run_door_front.specs.Keeping.{ClientTold}
-use Rattle.run_door_front.specs.Exchanged.{Sides, IsClient, AreClients, IsHeard, IsPending, WasOver, HasExchanged}
-use Rattle.run_door_front.specs.Exchanged.{HadToWait as HadToWaitThen}
+use Rattle.run_door_front.specs.Exchanged.{Sides, IsClient, AreClients, IsHeard, IsPending, HasExchanged}
 use Rattle.run_doors.specs.Steps.{traffic_of}
 use Rattle.run_doors.proofs.Covered.{order_has, before_has, is_in, finished_below}
 use Rattle.run_doors.proofs.Requests.{IsNth, nth_of}
@@ -42,7 +40,7 @@ module _ (IsMade : WireTold → Type 0) where
   link_passed : (l : ClientTold) (v : RunConnection) → IsClient IsMade l v → HasPassed v (traffic_of l)
   link_passed l v k = record {
     stage = k.memory;
-    keeps = λ reading. subst (λ s. ∥ Keeps s (holding l.seen.kept.read.items reading) (log l.seen.kept.read.items l.seen.kept.written.items v.bodies v.texts) ∥₁)
+    keeps = λ reading. subst (λ s. ∥ Keeps (plain_stage s) (holding l.seen.kept.read.items reading) (log l.seen.kept.read.items l.seen.kept.written.items v.bodies v.texts) ∥₁)
         (sym k.stage) ((keeps_word k.first l.seen v.bodies v.texts k.talks).keeps reading);
   }
 
@@ -102,7 +100,7 @@ module _ {new : Exchange} (IsMade : WireTold → Type 0) (parts : ProgramParts) 
         ∙ told_response heard.told (contains_front f.heard d.sent.told heard.told f.told heard.there) heard.place
 
   pending_none : (j : ℕ) (a : Asked) (c : Came) (connection : RunConnection) (text : Option (List ℕ))
-      → slice_get connection.texts a.request ≡ Some text → IsPending now.kept.links j a c connection → ⊥
+      → slice_get connection.texts a.request ≡ Some text → IsPending now.kept.connections j a c connection → ⊥
   pending_none j a c connection text is pending =
       none_not_some text (sym (get_past connection.texts) ∙ ap (slice_get connection.texts) (sym pending.last) ∙ is)
 
@@ -145,40 +143,6 @@ module _ {new : Exchange} (IsMade : WireTold → Type 0) (parts : ProgramParts) 
       ∙ ap (is_in i) (k.told_before j n seen)
       ∙ ap (λ c. is_in i (finished_before (run_of parts) h c j)) given_long
       ∙ before_has (run_of parts) h first_worker (length f.all.asked) i j inside before
-
-  -- ---- in turn
-
-  -- what had not been told of by then was finished there or later
-  waited_so : (j m n : ℕ) → slice_get d.received.seens j ≡ Some n → HadToWaitThen d.received.asked (take n d.sent.told) j m
-      → HadToWait (run_of parts) h f.all.asked j m
-  waited_so j m n seen w = (w.0, w.1, there, w.3, w.4, by_order (nat_lt at j) refl)
-    where
-      there : slice_get f.all.asked w.0 ≡ Some w.1
-      there = ap (λ l. slice_get l w.0) f.asked ∙ w.2
-
-      at : ℕ
-      at = finished_at (run_of parts) (past_of (run_of parts) h) first_worker (length f.all.asked) w.0
-
-      by_order : (b : Bool) → nat_lt at j ≡ b → j ≤ at
-      by_order true e =
-          absurd (true≢false (sym (told_by w.0 j n seen (get_within f.all.asked w.0 w.1 there) (ltb-true at j e)) ∙ w.5))
-      by_order false e = ltb-false at j e
-
-  -- one that was over then had all its requests posted before
-  over_so : (j m : ℕ) (l : ClientTold) (connection : RunConnection) → slice_get f.connections m ≡ Some connection → IsClient IsMade l connection → WasOver d.received.asked l j m
-      → IsOver connection.stage × (count_by (is_of m) (take j f.all.asked) ≡ length connection.bodies)
-  over_so j m l connection there is over = (
-    subst IsOver (sym is.stage) over.0,
-    ap (λ asked. count_by (is_of m) (take j asked)) f.asked ∙ over.1 ∙ ap (count_by (is_of m)) (sym f.asked) ∙ f.taken.all m connection there,
-  )
-
-  -- when a posting came each connection before its own waited for an answer or was over
-  pub in_turn_so : AreInTurn (run_of parts) h f.connections f.all.asked
-  in_turn_so j m a connection there at less =
-      let n = told_count j a there in
-      let link = link_at IsMade now.kept.links f.connections f.links m connection at in
-      ⊎_elim (λ w. inl (waited_so j m n.0 n.1 w)) (λ over. inr (over_so j m link.0 connection at link.2 over))
-      (f.in_turn j m n.0 a link.0 (asked_there j a there) n.1 link.1 less)
 
   -- ---- which were told
 
@@ -255,7 +219,7 @@ module _ {new : Exchange} (IsMade : WireTold → Type 0) (parts : ProgramParts) 
 
     told_so : (n : ℕ) (connection : RunConnection) → slice_get f.connections n ≡ Some connection → is_told connection ≡ true
     told_so n connection there =
-        let link = link_at IsMade now.kept.links f.connections f.links n connection there in
+        let link = link_at IsMade now.kept.connections f.connections f.clients n connection there in
         same_eq (length connection.texts) (length connection.bodies)
         (all_told_by n connection there (length connection.bodies) refl
         (texts_within link.2.first link.0.seen connection.bodies connection.texts
@@ -268,17 +232,16 @@ module _ {new : Exchange} (IsMade : WireTold → Type 0) (parts : ProgramParts) 
 
   module _ (doors : list_all (λ (connection : RunConnection). has_door parts connection.service) f.connections ≡ true) where
     -- what came on the connections was served
-    abbrev pub served_so : IsServed (run_of parts) h d.sent.halted (map traffic_of now.kept.links)
+    abbrev pub served_so : IsServed (run_of parts) h d.sent.halted (map traffic_of now.kept.connections)
     served_so = record {
       connections = f.connections;
       all = f.all;
       doors = doors;
-      passed = links_passed IsMade now.kept.links f.connections f.links;
+      passed = links_passed IsMade now.kept.connections f.connections f.clients;
       taken = record { in_order = f.taken.in_order; all = f.taken.all };
       came = f.came;
       posted = k.posted ∙ ap (posts_of 0) f.given;
       one_by_one = one_by_one_so;
-      in_turn = in_turn_so;
       responses = response_so;
       told_early = told_early_so;
       told = all_told_so;

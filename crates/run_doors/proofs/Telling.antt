@@ -8,7 +8,7 @@ use Rattle.std.proofs.lemmas.Bool.{eqb-true, eqb-false, not-true, not-false, or_
 use Rattle.outside_traits.specs.Causes.{Rose}
 use Rattle.outside_doors.specs.Counts.{DoorTold, Tally, with_door}
 use Rattle.outside_traits.specs.Told.{Lists}
-use Rattle.outside_traits.specs.Told.{WireTold}
+use Rattle.outside_polling.specs.Polls.{PollTold}
 use Rattle.run_theorem.specs.Ports.{DoorAt}
 use Rattle.run_theorem.specs.Used.{RoseBy, with_openings, with_wires, with_doors, has_failed}
 use Rattle.run_doors.specs.Steps.{GivesWires, GivesDoors, wire_of, door_of, traffic_of}
@@ -74,7 +74,7 @@ pub with_openings-append : (xs ys : List DoorAt) (t : Tally) → with_openings (
 with_openings-append [] ys t = refl
 with_openings-append (x ∷ xs) ys t = with_openings-append xs ys _
 
-pub with_wires-append : (xs ys : List WireTold) (t : Tally) → with_wires (xs ++ ys) t ≡ with_wires ys (with_wires xs t)
+pub with_wires-append : (xs ys : List PollTold) (t : Tally) → with_wires (xs ++ ys) t ≡ with_wires ys (with_wires xs t)
 with_wires-append [] ys t = refl
 with_wires-append (x ∷ xs) ys t = with_wires-append xs ys _
 
@@ -119,7 +119,7 @@ no_doors a = record {
 }
 
 -- some and then others
-pub more_wires : (xs ys : List WireTold) (a b c : DoorsTold) → GivesWires xs a b → GivesWires ys b c → GivesWires (xs ++ ys) a c
+pub more_wires : (xs ys : List PollTold) (a b c : DoorsTold) → GivesWires xs a b → GivesWires ys b c → GivesWires (xs ++ ys) a c
 more_wires xs ys a b c k l = record {
   tally = l.tally ∙ ap (with_wires ys) k.tally ∙ sym (with_wires-append xs ys a.tally);
   returned = Lists-then a.returned b.returned c.returned xs ys k.returned l.returned;
@@ -186,13 +186,13 @@ none_left (x ∷ xs) n e h = absurd (clash n (length xs) e h)
     clash m k f g = omega (arith, f, g)
 
 -- what the wires that are left make of all
-pub wires_on : (all : List WireTold) (a b c : DoorsTold) (x : ClientTold) (old rest : List ClientTold) → old ≡ x ∷ rest
+pub wires_on : (all : List PollTold) (a b c : DoorsTold) (x : ClientTold) (old rest : List ClientTold) → old ≡ x ∷ rest
     → ((after : DoorsTold) → GivesWires (map wire_of old) b after → GivesWires all a after) → GivesWires (wire_of x ∷ []) b c
     → (after : DoorsTold) → GivesWires (map wire_of rest) c after → GivesWires all a after
 wires_on all a b c x old rest is k one after m =
     k after (subst (λ l. GivesWires (map wire_of l) b after) (sym is) (more_wires (wire_of x ∷ []) (map wire_of rest) b c after one m))
 
-pub wires_end : (all : List WireTold) (a b : DoorsTold) (old : List ClientTold) → old ≡ []
+pub wires_end : (all : List PollTold) (a b : DoorsTold) (old : List ClientTold) → old ≡ []
     → ((after : DoorsTold) → GivesWires (map wire_of old) b after → GivesWires all a after) → GivesWires all a b
 wires_end all a b old none k = k b (subst (λ l. GivesWires (map wire_of l) b b) (sym none) (no_wires b))
 

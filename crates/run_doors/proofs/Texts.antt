@@ -5,15 +5,16 @@ use Rattle.http_port.specs.Feeding.{Place}
 use Rattle.http_port.specs.Serving.{bodies_in}
 use Rattle.http_port.specs.declared.head_reader.Fed.{Fed}
 use Rattle.http_port.specs.declared.head_reader.Fed.TheVariants.{NotYet, Interim, Request, Refused}
-use Rattle.http_connection.specs.declared.stage.Stage.TheVariants as Stages
-use Rattle.http_connection.specs.declared.stage.Ending.TheVariants as Ends
-use Rattle.http_connection.specs.declared.stage.Standing.{Standing}
-use Rattle.http_connection.specs.declared.stage.Standing.TheVariants as Stands
-use Rattle.http_connection.specs.Stages.{stage_of}
+use Rattle.conn_future.specs.declared.kept.Kept.{Kept}
+use Rattle.conn_future.specs.declared.stage.Stage.TheVariants as Stages
+use Rattle.conn_future.specs.declared.stage.Ending.TheVariants as Ends
+use Rattle.conn_future.specs.declared.stage.Standing.{Standing}
+use Rattle.conn_future.specs.declared.stage.Standing.TheVariants as Stands
+use Rattle.conn_future.specs.Stages.{stage_of, plain_standing}
+use Rattle.conn_future.specs.Talking.{Seen, plain, IsWriting, IsTalking}
 use Rattle.outside_traits.specs.Told.{WireTold}
-use Rattle.http_connection.specs.Seen.{Seen}
 use Rattle.http_connection.specs.Talking.{Log, log, log_of, Answered, IsAnswered, HasGiven, HasWritten, HasAsked}
-use Rattle.http_connection.specs.Talking.{told_to, Passed, IsTalking}
+use Rattle.http_connection.specs.Talking.{told_to, Passed}
 
 -- as many texts as requests
 answered_long : (feds : List Fed) (texts : List (Option (List ℕ))) (went : List ℕ) → Answered feds texts went
@@ -61,19 +62,21 @@ same_is_most : (m n : ℕ) → m ≡ n → m ≤ n
 same_is_most m n e = omega (arith, e)
 
 -- by how the connection stands
-passed_long : (next : Standing) (place : Place) (l : Log) → stage_of next ≢ Stages.Spent → Passed next place l
+passed_long : (next : Standing) (kept : Kept) (l : Log) → stage_of next ≢ Stages.Spent → Passed (plain_standing next) kept.reader l → IsWriting next kept l
     → length l.texts ≤ length l.bodies
-passed_long Stands.Waits place l some k = same_is_most _ _ (given_long NotYet place l k)
-passed_long (Stands.Holds body close) place l some k = same_is_most _ _ (given_long (Request body close) place l k)
-passed_long (Stands.Owes close) place l some k = asked_long close place l k
-passed_long (Stands.Over Ends.Ended) place l some k = same_is_most _ _ (given_long NotYet place l k)
-passed_long (Stands.Over Ends.Closed) place l some k = same_is_most _ _ (written_long k.0 k.1 _ place l k.3)
-passed_long (Stands.Over Ends.ReadFailed) place l some k = same_is_most _ _ (given_long NotYet place l k)
-passed_long (Stands.Over Ends.WriteFailed) place l some k = same_is_most _ _ (written_long k.0 k.1 _ place l k.4)
-passed_long Stands.Spent place l some k = absurd (some refl)
+passed_long Stands.Waits kept l some k w = same_is_most _ _ (given_long NotYet kept.reader l k)
+passed_long (Stands.Holds body close) kept l some k w = same_is_most _ _ (given_long (Request body close) kept.reader l k)
+passed_long (Stands.Owes close) kept l some k w = asked_long close kept.reader l k
+passed_long (Stands.Says close) kept l some k w = same_is_most _ _ (written_long (Request w.0 close) kept.said [] kept.reader l w.1)
+passed_long (Stands.Sends close) kept l some k w = same_is_most _ _ (written_long w.0.last w.0.text kept.due.out kept.reader l w.0.written)
+passed_long (Stands.Over Ends.Ended) kept l some k w = same_is_most _ _ (given_long NotYet kept.reader l k)
+passed_long (Stands.Over Ends.Closed) kept l some k w = same_is_most _ _ (written_long k.0 k.1 _ kept.reader l k.3)
+passed_long (Stands.Over Ends.ReadFailed) kept l some k w = same_is_most _ _ (given_long NotYet kept.reader l k)
+passed_long (Stands.Over Ends.WriteFailed) kept l some k w = same_is_most _ _ (written_long k.0 k.1 _ kept.reader l k.4)
+passed_long Stands.Spent kept l some k w = absurd (some refl)
 
 -- no more texts than bodies
 pub texts_within : (first : WireTold) (now : Seen) (bodies : List (List ℕ)) (texts : List (Option (List ℕ)))
     → stage_of now.kept.next ≢ Stages.Spent → IsTalking first now bodies texts → length texts ≤ length bodies
 texts_within first now bodies texts some k =
-    passed_long now.kept.next now.kept.reader (log_of now bodies texts) some k.passed
+    passed_long now.kept.next now.kept (log_of (plain now) bodies texts) some k.talks.passed k.writing

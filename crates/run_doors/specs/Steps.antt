@@ -4,12 +4,14 @@ use Rattle.std.specs.Prelude.{◌≡◌, ℕ, Bool, not, ◌||◌, if◌then◌e
 use Rattle.outside_doors.specs.Returns.{DoorsTold}
 use Rattle.std.specs.List.{list_any, filter, items_where_true}
 use Rattle.outside_doors.specs.Counts.{DoorTold, Tally, untried, with_opened}
-use Rattle.outside_traits.specs.Told.{Lists, WireTold, shut}
+use Rattle.outside_traits.specs.Told.{Lists}
+use Rattle.outside_polling.specs.Polls.{PollTold, shut_so}
 use Rattle.behaviour_tree.specs.Data.{PortPart}
 use Rattle.run_record.specs.declared.record.Record.{Record}
 use Rattle.run_record.specs.declared.record.Traffic.{Traffic}
 use Rattle.run_theorem.specs.Ports.{DoorAt, is_door}
-use Rattle.run_door_front.specs.Keeping.{ListenerTold, ClientTold}
+use Rattle.run_door_front.specs.Keeping.{ListenerTold, ClientTold, Keeping, told_of_wire}
+use Rattle.run_door_front.specs.Draining.{Drains}
 use Rattle.run_theorem.specs.Used.{Used, RoseBy, tries_at, has_failed}
 use Rattle.run_theorem.specs.Used.{with_openings, with_wires, with_doors}
 
@@ -61,7 +63,7 @@ pub record Opens (wanted : List DoorAt) (before now : Opened) : Type 0 where
 -- ---- doors and wires come back
 
 -- These wires came back.
-pub record GivesWires (wires : List WireTold) (before now : DoorsTold) : Type 0 where
+pub record GivesWires (wires : List PollTold) (before now : DoorsTold) : Type 0 where
   pub tally : now.tally ≡ with_wires wires before.tally
   pub returned : Lists before.returned now.returned wires
   pub came_back : now.returned_doors ≡ before.returned_doors
@@ -77,7 +79,7 @@ pub record GivesDoors (doors : List DoorTold) (before now : DoorsTold) : Type 0 
   pub faults : RoseBy (count_by has_failed doors) before.faults now.faults
 
 -- First these wires came back, and then these doors.
-pub record GivesBack (wires : List WireTold) (doors : List DoorTold) (before now : DoorsTold) : Type 0 where
+pub record GivesBack (wires : List PollTold) (doors : List DoorTold) (before now : DoorsTold) : Type 0 where
   pub mid : DoorsTold
   pub wires_first : GivesWires wires before mid
   pub doors_then : GivesDoors doors mid now
@@ -87,13 +89,26 @@ abbrev pub traffic_of : ClientTold → Traffic
 traffic_of link = record { read = link.seen.kept.read.items; written = link.seen.kept.written.items }
 
 -- what its wire tells, once it is closed
-abbrev pub wire_of : ClientTold → WireTold
-wire_of link =
-    shut link.seen.line
+abbrev pub wire_of : ClientTold → PollTold
+wire_of link = shut_so (told_of_wire link)
 
 -- what a door tells
 abbrev pub door_of : ListenerTold → DoorTold
 door_of port = port.door
+
+-- what came back: the bytes of the connections, and whether a door had failed
+pub record BackTold : Type 0 where
+  pub traffic : List Traffic
+  pub failed : Bool
+
+-- The connections and the doors of a front came back once all that was due was written.
+pub record Closes (kept : Keeping) (back : BackTold) (before now : DoorsTold) : Type 0 where
+  pub ports : List ListenerTold
+  pub connections : List ClientTold
+  pub drains : Drains kept.halted kept.doors ports kept.connections connections
+  pub traffic : back.traffic ≡ map traffic_of connections
+  pub failed : back.failed ≡ list_any has_failed (map door_of ports)
+  pub gives : GivesBack (map wire_of connections) (map door_of ports) before now
 
 -- ---- the end
 

@@ -2,7 +2,7 @@
 ghost use Rattle.std.specs.Prelude.{◌≡◌, [], ◌∷◌, map, IfOk, OnOk};
 ghost use Rattle.std.specs.List.{list_any};
 ghost use Rattle.run_theorem.specs.Used.{has_failed};
-ghost use Rattle.run_doors.specs.Steps.{GivesBack, GivesDoors, GivesWires, door_of, traffic_of, wire_of};
+ghost use Rattle.run_doors.specs.Steps.{Closes, GivesDoors, GivesWires, door_of, traffic_of, wire_of};
 
 use jolie_trees::Bytes;
 use outside_doors::{Door, Doors};
@@ -18,20 +18,20 @@ pub(crate) struct Back {
     pub failed: bool,
 }
 
-/// Gives back the wires of all connections in the order in which they were accepted, and then the doors.
+/// Gives back the wires of all connections in the order in which they were accepted, and then the doors, once all that is
+/// due is written.
 pub(crate) fn give_back<D: Doors>(
     alloc: Global,
     doors: &mut D,
     kept: Kept<D::D>,
 ) -> Result<Back, AllocError>
-    ensures traffic { IfOk result (λ back. back.traffic ≡ map traffic_of kept.links) }
-    ensures failed { IfOk result (λ back. back.failed ≡ list_any has_failed (map door_of kept.ports)) }
-    ensures doors { OnOk result (GivesBack (map wire_of kept.links) (map door_of kept.ports)
+    ensures { IfOk result (λ back. Closes kept
+        (record { traffic = back.traffic; failed = back.failed })
         (D.told doors.old)
         (D.told doors.new)) }
 {
-    let (ports, links) = kept.into_parts();
-    let traffic = wires_back(alloc, doors, links)?;
+    let (ports, connections) = kept.into_drained()?;
+    let traffic = wires_back(alloc, doors, connections)?;
     let failed = doors_back(doors, ports);
     Ok(Back { traffic, failed })
 }
@@ -40,29 +40,29 @@ pub(crate) fn give_back<D: Doors>(
 fn wires_back<D: Doors>(
     alloc: Global,
     doors: &mut D,
-    links: Vec<Client<<D::D as Door>::W>>,
+    connections: Vec<Client<<D::D as Door>::W>>,
 ) -> Result<Items<Traffic>, AllocError>
-    ensures traffic { IfOk result (λ traffic. traffic ≡ map traffic_of links.items) }
-    ensures doors { OnOk result (GivesWires (map wire_of links.items)
+    ensures traffic { IfOk result (λ traffic. traffic ≡ map traffic_of connections.items) }
+    ensures doors { OnOk result (GivesWires (map wire_of connections.items)
         (D.told doors.old)
         (D.told doors.new)) }
 {
     let mut traffic = Items::new(alloc);
-    for link in links {
-        let passed = wire_back(doors, link);
+    for connection in connections {
+        let passed = wire_back(doors, connection);
         traffic.push(passed)?;
     }
     Ok(traffic)
 }
 
 /// Gives back the wire of a connection. It says what was read and written on it.
-fn wire_back<D: Doors>(doors: &mut D, link: Client<<D::D as Door>::W>) -> Traffic
-    ensures traffic { result ≡ traffic_of link }
-    ensures doors { GivesWires (wire_of link ∷ [])
+fn wire_back<D: Doors>(doors: &mut D, connection: Client<<D::D as Door>::W>) -> Traffic
+    ensures traffic { result ≡ traffic_of connection }
+    ensures doors { GivesWires (wire_of connection ∷ [])
         (D.told doors.old)
         (D.told doors.new) }
 {
-    let (wire, read, written) = link.into_parts();
+    let (wire, read, written) = connection.into_parts();
     doors.wire_back(wire);
     Traffic {
         read: Bytes::from_vec(read),

@@ -35,7 +35,7 @@ pub fn run_doors<S: Seating, D: Doors, N: Sink, L: Link>(
 ) -> Result<Ended, AllocError>
     requires some { 0 < length (parts_of program).services }
     ensures { (source : SourceTold) (output : SinkTold) → IfOk result (IsDoored
-        (λ line. (wire : D.D.W) × (line ≡ D.D.W.told wire))
+        (λ line. (wire : D.D.W) × (line ≡ (D.D.W.told wire).wire))
         connections (record { parts = parts_of program; text = text.now; budget = budget; picks = [] })
         (record {
           before = record {

@@ -7,8 +7,9 @@ use Rattle.run_theorem.specs.Calls.{is_of}
 use Rattle.run_theorem.specs.Texts.{Came}
 use Rattle.run_record.specs.declared.record.Traffic.{Traffic}
 use Rattle.http_port.specs.Connections.{Reading}
-use Rattle.http_connection.specs.declared.stage.Stage.{Stage}
-use Rattle.http_connection.specs.declared.stage.Stage.TheVariants as Stages
+use Rattle.conn_future.specs.declared.stage.Stage.{Stage}
+use Rattle.conn_future.specs.declared.stage.Stage.TheVariants as Stages
+use Rattle.conn_future.specs.Law.{plain_stage}
 use Rattle.http_connection.specs.Talking.{log}
 use Rattle.http_connection.specs.Law.{holding, Keeps}
 
@@ -42,12 +43,12 @@ pub record AreTaken (connections : List RunConnection) (asked : List Asked) : Ty
   pub all : (k : ℕ) (connection : RunConnection) → slice_get connections k ≡ Some connection
       → count_by (is_of k) asked ≡ length connection.bodies
 
--- The bytes of a connection that stands so. Unless it stands as failed in a write the bodies are those of the first
--- requests that were read, and of all where it is over; and what was written is what is to be written where these texts
--- are told. Where it stands as failed in a write the bodies are those of the first requests, and a front of that was
--- written, in which no more is wanting than the last answer and what is due after it.
+-- The bytes of a connection that stands so. Unless a text goes out on it or a write failed, the bodies are those of the
+-- first requests that were read, of all where it reads on or is over; and what was written is what is to be written
+-- where these texts are told. While a text goes out, and where a write failed, the bodies are those of the first
+-- requests, and a prefix of that was written, in which no more is wanting than the last answer and what is due after it.
 pub record HasPassed (connection : RunConnection) (traffic : Traffic) : Type 0 where
   pub stage : connection.stage ≢ Stages.Spent
   pub keeps : (reading : Reading traffic.read)
-      → ∥ Keeps connection.stage (holding traffic.read reading)
+      → ∥ Keeps (plain_stage connection.stage) (holding traffic.read reading)
       (log traffic.read traffic.written connection.bodies connection.texts) ∥₁

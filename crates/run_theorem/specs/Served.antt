@@ -1,17 +1,15 @@
 -- What a run over connections posted and wrote.
-use Rattle.std.specs.Prelude.{◌≡◌, ◌⊎◌, ℕ, suc, ◌<◌, ◌≤◌, Bool, true, false, List, length, map, take, nat_eq}
-use Rattle.std.specs.Prelude.{Option, Some, count_by, slice_get}
+use Rattle.std.specs.Prelude.{◌≡◌, ℕ, suc, ◌<◌, Bool, true, false, List, length, map, nat_eq}
+use Rattle.std.specs.Prelude.{Option, Some, slice_get}
 use Rattle.std.specs.List.{list_all, AllZip}
 use Rattle.office_core.specs.declared.history.Entry.{Entry}
 use Rattle.office_core.specs.Limits.{Setting, first_worker}
 use Rattle.office_core.specs.Accepted.{past_of}
 use Rattle.run_theorem.specs.Exchange.{Asked}
-use Rattle.run_theorem.specs.Calls.{is_of}
 use Rattle.run_record.specs.declared.record.Traffic.{Traffic}
 use Rattle.run_record.specs.Postings.{posts_by, posts_of}
 use Rattle.run_record.specs.Order.{finished_at}
 use Rattle.run_theorem.specs.Texts.{Came, posting_of, response}
-use Rattle.http_connection.specs.Stages.{IsOver}
 use Rattle.run_theorem.specs.Ports.{has_door}
 use Rattle.run_theorem.specs.RunConnections.{RunConnection, came_at, AreTaken, HasPassed}
 
@@ -33,18 +31,6 @@ abbrev pub AreOneByOne : Setting → List Entry → List Asked → Type 0
 AreOneByOne w h asked = (i j : ℕ) (a b : Asked) → slice_get asked i ≡ Some a → slice_get asked j ≡ Some b
     → a.traffic ≡ b.traffic → i < j → finished_at w (past_of w h) first_worker (length asked) i < j
 
--- Connection k waited for an answer when posting j came: an earlier posting of it was not finished before that one.
-abbrev pub HadToWait : Setting → List Entry → List Asked → ℕ → ℕ → Type 0
-HadToWait w h asked j k = (i : ℕ) × (a : Asked) × (slice_get asked i ≡ Some a) × (a.traffic ≡ k) × (i < j)
-    × (j ≤ finished_at w (past_of w h) first_worker (length asked) i)
-
--- When a posting came each connection before its own waited for an answer, or was over: it is over in the end, and each
--- request that was taken from it had been posted before.
-abbrev pub AreInTurn : Setting → List Entry → List RunConnection → List Asked → Type 0
-AreInTurn w h connections asked = (j k : ℕ) (a : Asked) (connection : RunConnection) → slice_get asked j ≡ Some a
-    → slice_get connections k ≡ Some connection → k < a.traffic
-    → HadToWait w h asked j k ⊎ (IsOver connection.stage × (count_by (is_of k) (take j asked) ≡ length connection.bodies))
-
 -- A text was told to each request whose posting was finished at one before the last.
 abbrev pub AreToldEarly : Setting → List Entry → List RunConnection → List Asked → Type 0
 AreToldEarly w h connections asked = (j : ℕ) (a : Asked) (connection : RunConnection) → slice_get asked j ≡ Some a
@@ -57,11 +43,10 @@ is_told connection = nat_eq (length connection.texts) (length connection.bodies)
 
 -- The requests that were taken from the connections of this traffic were posted to the services of their doors, each
 -- once and those of one connection in their order, by the worker that has the connections; and, whether the front
--- halted or not, each once the one before it on its connection was answered, and where each connection before its own
--- waited for an answer or was over. What was written on each is what is to be written where the responses to its
--- postings are told; where it stands as failed in a write the last of these, or what is due after it, was cut. The
--- response to each posting was told that was finished before the last one came; and unless the front halted, to each.
--- Whether a connection has failed its wire tells, when it comes back.
+-- halted or not, each once the one before it on its connection was answered. What was written on each is what is to be
+-- written where the responses to its postings are told; where a text goes out on it or a write failed, the last of
+-- these, or what is due after it, was cut. The response to each posting was told that was finished before the last one
+-- came; and unless the front halted, to each. Whether a connection has failed its wire tells, when it comes back.
 pub record IsServed (w : Setting) (h : List Entry) (halted : Bool) (traffic : List Traffic) : Type 0 where
   pub connections : List RunConnection
   pub all : Requests
@@ -71,7 +56,6 @@ pub record IsServed (w : Setting) (h : List Entry) (halted : Bool) (traffic : Li
   pub came : map (came_at connections) all.asked ≡ map Some all.came
   pub posted : posts_by first_worker h ≡ posts_of 0 (map posting_of all.came)
   pub one_by_one : AreOneByOne w h all.asked
-  pub in_turn : AreInTurn w h connections all.asked
   pub responses : AreResponses w h connections all
   pub told_early : AreToldEarly w h connections all.asked
   pub told : halted ≡ false → list_all is_told connections ≡ true

@@ -1,22 +1,24 @@
 -- What a run did with doors: where it opened them, and what came back to them.
-use Rattle.std.specs.Prelude.{◌≡◌, ◌⊎◌, ◌↔◌, ℕ, ◌+◌, ◌≤◌, ◌==◌, Bool, true, false, not, if◌then◌else◌}
+use Rattle.std.specs.Prelude.{◌≡◌, ◌≢◌, ◌⊎◌, ◌↔◌, ℕ, ◌+◌, ◌≤◌, ◌==◌, Bool, true, false, not, if◌then◌else◌}
 use Rattle.std.specs.Prelude.{List, [], ◌∷◌, length, fold, sum_by, count_by, Option, None, Some, nat_eq}
 use Rattle.std.specs.List.{list_any, items_where_true}
 use Rattle.std.specs.Io.KnownBytes.{Appends}
 use Rattle.outside_doors.specs.Counts.{DoorTold, Tally, added, with_opened, with_door, with_wire}
 use Rattle.outside_traits.specs.Told.{Lists, WireTold}
+use Rattle.outside_polling.specs.Polls.{PollTold}
 use Rattle.outside_doors.specs.Returns.{TryTold, try_told, DoorsTold}
 use Rattle.run_record.specs.declared.record.Traffic.{Traffic}
 use Rattle.run_theorem.specs.Ports.{DoorAt, Lead, is_led}
+use Rattle.run_theorem.specs.Lines.{most_waits}
 use Rattle.run_theorem.specs.RunConnections.{RunConnection}
-use Rattle.http_connection.specs.declared.stage.Stage.TheVariants as Stages
+use Rattle.conn_future.specs.declared.stage.Stage.TheVariants as Stages
 
 -- What a run did with doors: for each location whether a door was opened there, what each of these doors told when it
 -- came back, and what the wire of each connection told when it came back.
 pub record Used : Type 0 where
   pub opened : List Bool
   pub doors : List DoorTold
-  pub wires : List WireTold
+  pub wires : List PollTold
 
 -- ---- where doors are opened
 
@@ -57,7 +59,7 @@ abbrev pub with_openings : List DoorAt → Tally → Tally
 with_openings doors tally = fold (λ counts door. with_opened counts) tally doors
 
 -- these wires came back
-abbrev pub with_wires : List WireTold → Tally → Tally
+abbrev pub with_wires : List PollTold → Tally → Tally
 with_wires wires tally = fold (λ counts wire. with_wire wire counts) tally wires
 
 -- these doors came back
@@ -119,7 +121,12 @@ pub record IsWireOf (IsMade : WireTold → Type 0) (connection : RunConnection) 
   pub ended : (connection.stage ≡ Stages.Ended) → (wire.ended ≡ true)
 
 -- the wires are those of the connections, in order
-abbrev pub AreWires : (WireTold → Type 0) → List RunConnection → List Traffic → List WireTold → Type 0
+abbrev pub AreWires : (WireTold → Type 0) → List RunConnection → List Traffic → List PollTold → Type 0
 AreWires IsMade [] [] [] = Unit {0}
-AreWires IsMade (v ∷ vs) (t ∷ ts) (w ∷ ws) = IsWireOf IsMade v t w × AreWires IsMade vs ts ws
+AreWires IsMade (v ∷ vs) (t ∷ ts) (w ∷ ws) = IsWireOf IsMade v t w.wire × AreWires IsMade vs ts ws
 AreWires IsMade vs ts ws = ⊥
+
+-- No text goes out on a connection any more: all that was due on it was written, or a write failed. Or its wire answered
+-- as often, in all, as a run looks in a row that it can move nothing yet.
+abbrev pub IsWrittenOut : RunConnection → PollTold → Type 0
+IsWrittenOut connection wire = (connection.stage ≢ Stages.Writes) ⊎ (most_waits ≤ wire.waits)

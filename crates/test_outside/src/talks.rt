@@ -1,9 +1,11 @@
 //! Connections whose answers come late: what is asked, when what is written, how the wire is called, and how each ends;
-//! in pieces of each size, beside another connection, and with a wire that fails at each of its calls.
+//! in pieces of each size, over a wire that does not wait, beside another connection, and with a wire that fails at each
+//! of its calls.
 
 mod alone;
 mod beside;
 mod failing;
+mod polled;
 mod talk;
 
 use std::alloc::Global;

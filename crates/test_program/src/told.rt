@@ -3,7 +3,7 @@
 use crate::peers::Calling;
 use crate::served::Meeting;
 use outside_doors::{Return, Try};
-use outside_traits::ScriptedWire;
+use outside_memory_doors::ScriptedPollWire;
 use std::alloc::{AllocError, Global};
 
 /// The status and the notes, what the doors count and where none could be opened, and a line for each connection with
@@ -60,7 +60,7 @@ fn tell_more(bytes: &[u8], said: &mut String) -> Result<(), AllocError> {
     said.push_str(text_of(bytes))
 }
 
-fn tell_wire(wire: &Return<ScriptedWire>, said: &mut String) -> Result<(), AllocError> {
+fn tell_wire(wire: &Return<ScriptedPollWire>, said: &mut String) -> Result<(), AllocError> {
     said.push_str("\n")?;
     said.push_str(text_of(wire.wire().taken()))
 }

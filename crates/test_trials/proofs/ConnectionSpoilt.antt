@@ -22,15 +22,15 @@ use Rattle.run_record.specs.Postings.{posts_by}
 use Rattle.run_theorem.specs.Texts.{response}
 use Rattle.http_port.specs.Talk.{answer as answer_bytes}
 use Rattle.http_port.proofs.TalkLemmas.{spoken}
-use Rattle.http_connection.specs.declared.stage.Stage.{Stage}
-use Rattle.http_connection.specs.declared.stage.Stage.TheVariants as Stages
+use Rattle.conn_future.specs.declared.stage.Stage.{Stage}
+use Rattle.conn_future.specs.declared.stage.Stage.TheVariants as Stages
 use Rattle.http_connection.proofs.Words.{same_early}
 use Rattle.run_theorem.specs.RunConnections.{RunConnection, HasPassed}
 use Rattle.run_theorem.specs.Served.{IsServed}
 use Rattle.test_trials.proofs.Requests.{bodies_by, talk_by, cons_nil}
 use Rattle.test_trials.proofs.Sent.{go, read_go, reading_go, gives_go}
-use Rattle.test_trials.proofs.First.{differ, behind_first, first_op, holds_alone, IsOther, LeadToOne, refused, refused_once, refused_cut}
-use Rattle.test_trials.proofs.Parts.{IsTextAt, told_responses, one_alone, in_turn_alone, early_alone, IsCut, passed_to_the_end, passed_in_part}
+use Rattle.test_trials.proofs.First.{differ, behind_first, first_op, holds_alone, IsOther, IsUncut, LeadToOne, refused, refused_once, refused_cut}
+use Rattle.test_trials.proofs.Parts.{IsTextAt, told_responses, one_alone, early_alone, IsCut, passed_to_the_end, passed_in_part}
 use Rattle.test_trials.proofs.ConnectionStopped.{setting, history, text, written, gives, asked, came, one_taken, is_response, responses, is_posted}
 
 one_door : LeadToOne setting
@@ -134,25 +134,25 @@ abbrev cut : List ℕ
 cut = take 100 written
 
 not_whole : (bytes : List ℕ) → (answer_bytes (Some text) false ≡ bytes → ⊥) → (s : IsServed setting history false (wrote bytes ∷ []))
-    → ((v : RunConnection) → slice_get s.connections 0 ≡ Some v → v.stage ≢ Stages.WriteFailed) → ⊥
+    → ((v : RunConnection) → slice_get s.connections 0 ≡ Some v → IsUncut v) → ⊥
 unfolding digits
 not_whole bytes apart =
     refused_cut setting history false (wrote bytes) reading_go go [] (gives_go reading_go) refl some_posted one_door (Some text)
     (sym is_response) (λ texts e. apart (sym e))
 
--- It is refused where no write failed and nothing halted,
+-- It is refused where no text goes out, no write failed and nothing halted,
 pub spoilt_cut : (s : IsServed setting history false (wrote cut ∷ []))
-    → ((v : RunConnection) → slice_get s.connections 0 ≡ Some v → v.stage ≢ Stages.WriteFailed) → ⊥
+    → ((v : RunConnection) → slice_get s.connections 0 ≡ Some v → IsUncut v) → ⊥
 unfolding digits
 spoilt_cut = not_whole cut (differ (answer_bytes (Some text) false) cut refl refl)
 
 -- and so is none.
 pub spoilt_unwritten : (s : IsServed setting history false (wrote [] ∷ []))
-    → ((v : RunConnection) → slice_get s.connections 0 ≡ Some v → v.stage ≢ Stages.WriteFailed) → ⊥
+    → ((v : RunConnection) → slice_get s.connections 0 ≡ Some v → IsUncut v) → ⊥
 unfolding digits
 spoilt_unwritten = not_whole [] (differ (answer_bytes (Some text) false) [] refl refl)
 
--- Each front of it that is not all is served where a write may have failed, and all of it where a read behind it may;
+-- Each prefix of it that is not all is served where a write may have failed, and all of it where a read behind it may;
 -- whether a call of its wire has failed is not sent here.
 abbrev at_stage : Stage → RunConnection
 at_stage stage = record { door = Some 0; service = 0; stage = stage; bodies = go ∷ []; texts = Some text ∷ [] }
@@ -168,7 +168,6 @@ served_at stage bytes passed = record {
   came = refl;
   posted = is_posted;
   one_by_one = one_alone setting history asked;
-  in_turn = in_turn_alone setting history (at_stage stage ∷ []) asked refl;
   responses = responses (at_stage stage) refl;
   told_early = early_alone setting history (at_stage stage ∷ []) asked;
   told = λ _. refl;
@@ -230,7 +229,6 @@ served_where_it_halted = record {
   came = refl;
   posted = is_posted;
   one_by_one = one_alone setting history asked;
-  in_turn = in_turn_alone setting history (owing ∷ []) asked refl;
   responses = told_responses setting history (owing ∷ []) (asked ∷ []) (came ∷ []) (owing_told, tt);
   told_early = early_alone setting history (owing ∷ []) asked;
   told = λ e. absurd (true≢false e);
@@ -238,7 +236,7 @@ served_where_it_halted = record {
 
 -- A request that was not taken is not posted, also where nothing halted: whether it waits is not sent here.
 abbrev untaken : RunConnection
-untaken = record { door = Some 0; service = 0; stage = Stages.Reads; bodies = []; texts = [] }
+untaken = record { door = Some 0; service = 0; stage = Stages.Asks; bodies = []; texts = [] }
 
 none_asked : (k : ℕ) (v : RunConnection) → slice_get (untaken ∷ []) k ≡ Some v → count_by (is_of k) [] ≡ length v.bodies
 none_asked zero v e = subst (λ (v : RunConnection). 0 ≡ length v.bodies) (same_Some untaken v e) refl
@@ -252,7 +250,7 @@ served_before_it_is_taken = record {
   doors = refl;
   passed = (
     record {
-      stage = λ e. let clash : Stages.Reads ≡ Stages.Spent = e in cc;
+      stage = λ e. let clash : Stages.Asks ≡ Stages.Spent = e in cc;
       keeps = λ r. ∣ (record { bodies = refl; texts = refl }, sym (talk_by read_go r gives [] (gives_go r))) ∣₁;
     },
     tt,
@@ -261,7 +259,6 @@ served_before_it_is_taken = record {
   came = refl;
   posted = refl;
   one_by_one = λ i j a b e. absurd (none-some a e);
-  in_turn = λ j k a v e. absurd (none-some a e);
   responses = λ j a c v t ea ec ev et. absurd (none-some a ea);
   told_early = λ j a v e. absurd (none-some a e);
   told = λ _. refl;

@@ -37,7 +37,7 @@ use Rattle.http_port.specs.declared.head_reader.Fed.TheVariants.{Request}
 use Rattle.run_theorem.specs.RunConnections.{RunConnection, came_with, AreTaken, HasPassed}
 use Rattle.run_theorem.specs.Served.{AreResponses, IsServed}
 use Rattle.test_trials.proofs.Sent.{go, read_go, gives_go}
-use Rattle.test_trials.proofs.Parts.{read_on, passed_on, IsTextAt, text_at, told_responses, one_alone, in_turn_alone, early_alone}
+use Rattle.test_trials.proofs.Parts.{read_on, passed_on, IsTextAt, text_at, told_responses, one_alone, early_alone}
 
 -- the program
 abbrev pub program : ProgramParts
@@ -79,7 +79,7 @@ connection = read_on gives (Some text ∷ [])
 
 passed : HasPassed connection (record { read = read_go; written = written })
 unfolding digits
-passed = passed_on (record { read = read_go; written = written }) gives (Some text ∷ []) gives_go refl refl
+passed = passed_on (record { read = read_go; written = written }) gives (Some text ∷ []) gives_go refl refl refl
 
 -- its request, and what it brings in
 abbrev pub asked : Asked
@@ -126,7 +126,6 @@ served = record {
   came = refl;
   posted = is_posted;
   one_by_one = one_alone setting history asked;
-  in_turn = in_turn_alone setting history (connection ∷ []) asked refl;
   responses = responses connection refl;
   told_early = early_alone setting history (connection ∷ []) asked;
   told = λ _. refl;

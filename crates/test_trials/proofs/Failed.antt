@@ -25,15 +25,14 @@ use Rattle.http_port.specs.declared.head_reader.Fed.TheVariants.{Request}
 use Rattle.http_port.specs.Talk.{answer as answer_bytes}
 use Rattle.http_port.proofs.TalkLemmas.{spoken}
 use Rattle.http_port.proofs.TurnLemmas.{starts_with}
-use Rattle.http_connection.specs.declared.stage.Stage.TheVariants as Stages
-use Rattle.http_connection.specs.Stages.{IsFailed}
+use Rattle.conn_future.specs.Stages.{IsFailed}
 use Rattle.http_connection.proofs.Words.{same_early, shorter_behind}
 use Rattle.run_theorem.specs.RunConnections.{RunConnection, HasPassed}
 use Rattle.run_theorem.specs.Served.{IsServed}
 use Rattle.test_trials.proofs.Requests.{cons_nil}
 use Rattle.test_trials.proofs.Sent.{go, more}
 use Rattle.test_trials.proofs.Parts.{read_failed, write_failed, IsCut, passed_to_the_end, passed_in_part}
-use Rattle.test_trials.proofs.First.{differ, behind_first, first_op, refused_untold, refused_behind, refused_untaken}
+use Rattle.test_trials.proofs.First.{differ, behind_first, first_op, IsUncut, refused_untold, refused_behind, refused_untaken}
 use Rattle.test_trials.proofs.TwoCalls.{setting, history, go_alone, call_more, text_go, text_more, written_go, written_more, came_go, came_more, response_go, go_early, is_posted_alone, response_go_alone}
 use Rattle.test_trials.proofs.Pipelined.{gives, gives_read, reading, wrote, written, texts, one_door}
 
@@ -101,9 +100,10 @@ spoilt_second_not_posted =
     refused_untaken setting go_alone false (wrote written_go) reading go (Request more false ∷ []) (gives_read reading) refl one_posted one_door
     (Some text_go) (sym response_go_alone) more [] refl not_both refl
 
--- Where it halted the first request was told its answer all the same: it had that before the second was posted.
+-- Where it halted the first request was told its answer all the same: it had that before the second was posted. So this
+-- is refused where no text goes out and no write failed.
 pub spoilt_untold_where_it_halted : (s : IsServed setting history true (wrote [] ∷ []))
-    → ((v : RunConnection) → slice_get s.connections 0 ≡ Some v → v.stage ≢ Stages.WriteFailed) → ⊥
+    → ((v : RunConnection) → slice_get s.connections 0 ≡ Some v → IsUncut v) → ⊥
 unfolding digits
 spoilt_untold_where_it_halted =
     refused_untold setting history true (wrote []) reading go (Request more false ∷ []) (gives_read reading) go_early some_posted one_door

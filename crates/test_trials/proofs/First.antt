@@ -25,15 +25,16 @@ use Rattle.http_port.specs.Connections.{Reading, given}
 use Rattle.http_port.specs.Serving.{bodies_in}
 use Rattle.http_port.specs.Talk.{answer}
 use Rattle.http_port.proofs.TalkLemmas.{spoken}
-use Rattle.http_connection.specs.declared.stage.Stage.{Stage}
-use Rattle.http_connection.specs.declared.stage.Stage.TheVariants as Stages
-use Rattle.http_connection.specs.Stages.{IsFailed, IsOver}
+use Rattle.conn_future.specs.declared.stage.Stage.{Stage}
+use Rattle.conn_future.specs.declared.stage.Stage.TheVariants as Stages
+use Rattle.conn_future.specs.Stages.{IsFailed, IsOver}
+use Rattle.conn_future.specs.Law.{plain_stage}
 use Rattle.http_connection.specs.Talking.{log}
 use Rattle.http_connection.specs.Law.{holding, bodies_of, talk_of, IsCutOff, Keeps}
 use Rattle.http_connection.proofs.Words.{begins_from}
 use Rattle.run_theorem.specs.Ports.{has_door}
 use Rattle.run_theorem.specs.RunConnections.{RunConnection, came_with, came_of, came_at, AreTaken, HasPassed}
-use Rattle.run_theorem.specs.Served.{Requests, AreOneByOne, HadToWait, AreResponses, AreToldEarly, is_told, IsServed}
+use Rattle.run_theorem.specs.Served.{Requests, AreOneByOne, AreResponses, AreToldEarly, is_told, IsServed}
 use Rattle.test_trials.proofs.Requests.{bodies_by, talk_by, cons_nil, head_same}
 use Rattle.test_trials.proofs.Parts.{IsCut}
 
@@ -190,15 +191,20 @@ is_first w h halted traffic s some =
 
 -- ---- how a connection stands
 
+-- no text goes out on a connection, and no write failed
+pub record IsUncut (v : RunConnection) : Type 0 where
+  pub unsent : v.stage ≢ Stages.Writes
+  pub unfailed : v.stage ≢ Stages.WriteFailed
+
 -- The reader of a connection gives this of its bytes: the bodies that were taken are the first of it, no more texts were
--- told, and what was written is a front of what is to be written. It is all of that, or it was cut; and all where no
--- write failed. From a connection that is over all was taken, or it was cut.
+-- told, and what was written is a prefix of what is to be written. It is all of that, or it was cut; and all where no
+-- text goes out and no write failed. From a connection that is over all was taken, or it was cut.
 pub record Stands (fs : List Fed) (v : RunConnection) (written : List ℕ) : Type 0 where
   pub bodies : v.bodies ≡ take (length v.bodies) (bodies_in fs)
   pub told : length v.texts ≤ length v.bodies
   pub front : StartsWith (spoken fs v.texts) written
   pub wrote : (written ≡ spoken fs v.texts) ⊎ IsCut fs v.texts written
-  pub whole : v.stage ≢ Stages.WriteFailed → written ≡ spoken fs v.texts
+  pub whole : IsUncut v → written ≡ spoken fs v.texts
   pub over : IsOver v.stage → (v.bodies ≡ bodies_in fs) ⊎ IsCut fs v.texts written
 
 module _ (t : Traffic) (r : Reading t.read) (fs : List Fed) (gives : given t.read r ≡ fs) where
@@ -230,24 +236,24 @@ module _ (t : Traffic) (r : Reading t.read) (fs : List Fed) (gives : given t.rea
     before = λ early last e. subst (StartsWith t.written) (talk_by t.read r fs early gives) (k.before early last e);
   }
 
-  write_failed_at : (v : RunConnection) → v.stage ≡ Stages.WriteFailed
+  cut_off_at : (v : RunConnection) → (IsUncut v → ⊥)
       → IsCutOff (holding t.read r) (log t.read t.written v.bodies v.texts) → Stands fs v t.written
-  write_failed_at v failed k =
+  cut_off_at v is_cut k =
       let cut = cut_at v k in
       record {
         bodies = first_bodies v.bodies k.in_order.bodies;
         told = fewer (length v.bodies) (length v.texts) 0 k.in_order.texts;
         front = cut.front;
         wrote = inr cut;
-        whole = λ other. absurd (other failed);
+        whole = λ uncut. absurd (is_cut uncut);
         over = λ _. inr cut;
       }
 
-  reads_not_over : IsOver Stages.Reads → ⊥
-  reads_not_over (inl e) = let clash : Stages.Reads ≡ Stages.Ended = e in cc
-  reads_not_over (inr (inl e)) = let clash : Stages.Reads ≡ Stages.Closed = e in cc
-  reads_not_over (inr (inr (inl e))) = let clash : Stages.Reads ≡ Stages.ReadFailed = e in cc
-  reads_not_over (inr (inr (inr e))) = let clash : Stages.Reads ≡ Stages.WriteFailed = e in cc
+  asks_not_over : IsOver Stages.Asks → ⊥
+  asks_not_over (inl e) = let clash : Stages.Asks ≡ Stages.Ended = e in cc
+  asks_not_over (inr (inl e)) = let clash : Stages.Asks ≡ Stages.Closed = e in cc
+  asks_not_over (inr (inr (inl e))) = let clash : Stages.Asks ≡ Stages.ReadFailed = e in cc
+  asks_not_over (inr (inr (inr e))) = let clash : Stages.Asks ≡ Stages.WriteFailed = e in cc
 
   owes_not_over : IsOver Stages.Owes → ⊥
   owes_not_over (inl e) = let clash : Stages.Owes ≡ Stages.Ended = e in cc
@@ -256,14 +262,20 @@ module _ (t : Traffic) (r : Reading t.read) (fs : List Fed) (gives : given t.rea
   owes_not_over (inr (inr (inr e))) = let clash : Stages.Owes ≡ Stages.WriteFailed = e in cc
 
   stands_at : (door : Option ℕ) (service : ℕ) (stage : Stage) (bodies : List (List ℕ)) (texts : List (Option (List ℕ))) → stage ≢ Stages.Spent
-      → Keeps stage (holding t.read r) (log t.read t.written bodies texts)
+      → Keeps (plain_stage stage) (holding t.read r) (log t.read t.written bodies texts)
       → Stands fs (record { door = door; service = service; stage = stage; bodies = bodies; texts = texts }) t.written
   stands_at door service Stages.Reads bodies texts memory k =
-      well (record { door = door; service = service; stage = Stages.Reads; bodies = bodies; texts = texts }) (first_bodies bodies k.0.bodies)
-      (fewer (length bodies) (length texts) 0 k.0.texts) k.1 (λ over. absurd (reads_not_over over))
+      well (record { door = door; service = service; stage = Stages.Reads; bodies = bodies; texts = texts }) (all_bodies bodies k.0.bodies)
+      (as_few (length texts) (length bodies) k.0.texts) k.1 (λ _. k.0.bodies ∙ bodies_by t.read r fs gives)
+  stands_at door service Stages.Asks bodies texts memory k =
+      well (record { door = door; service = service; stage = Stages.Asks; bodies = bodies; texts = texts }) (first_bodies bodies k.0.bodies)
+      (fewer (length bodies) (length texts) 0 k.0.texts) k.1 (λ over. absurd (asks_not_over over))
   stands_at door service Stages.Owes bodies texts memory k =
       well (record { door = door; service = service; stage = Stages.Owes; bodies = bodies; texts = texts }) (first_bodies bodies k.0.bodies)
       (fewer (length bodies) (length texts) 1 k.0.texts) k.1 (λ over. absurd (owes_not_over over))
+  stands_at door service Stages.Writes bodies texts memory k =
+      cut_off_at (record { door = door; service = service; stage = Stages.Writes; bodies = bodies; texts = texts })
+      (λ uncut. uncut.unsent refl) k
   stands_at door service Stages.Ended bodies texts memory k =
       well (record { door = door; service = service; stage = Stages.Ended; bodies = bodies; texts = texts }) (all_bodies bodies k.0.bodies)
       (as_few (length texts) (length bodies) k.0.texts) k.1 (λ _. k.0.bodies ∙ bodies_by t.read r fs gives)
@@ -274,7 +286,8 @@ module _ (t : Traffic) (r : Reading t.read) (fs : List Fed) (gives : given t.rea
       well (record { door = door; service = service; stage = Stages.ReadFailed; bodies = bodies; texts = texts }) (all_bodies bodies k.0.bodies)
       (as_few (length texts) (length bodies) k.0.texts) k.1 (λ _. k.0.bodies ∙ bodies_by t.read r fs gives)
   stands_at door service Stages.WriteFailed bodies texts memory k =
-      write_failed_at (record { door = door; service = service; stage = Stages.WriteFailed; bodies = bodies; texts = texts }) refl k
+      cut_off_at (record { door = door; service = service; stage = Stages.WriteFailed; bodies = bodies; texts = texts })
+      (λ uncut. uncut.unfailed refl) k
   stands_at door service Stages.Spent bodies texts memory k = absurd (memory refl)
 
   -- what is false of a connection however it stands
@@ -469,20 +482,6 @@ early_told w h first v (a ∷ b ∷ asked) c d others taken is told =
 
 -- ---- the first posting
 
-first_there : (vs : List RunConnection) (n : ℕ) (v : RunConnection) → slice_get vs n ≡ Some v → (u : RunConnection) × (slice_get vs 0 ≡ Some u)
-first_there [] n v there = absurd (none-some v there)
-first_there (u ∷ vs) n v there = (u, refl)
-
-none_is : (xs : List (Option (List ℕ))) (n : ℕ) → length xs ≤ n → n ≡ 0 → xs ≡ []
-none_is [] n few none = refl
-none_is (x ∷ xs) n few none = absurd (omega (arith, few, none))
-
-none_below_some : (n : ℕ) → 0 ≡ suc n → ⊥
-none_below_some n e = omega (arith, e)
-
-some_above : (n m : ℕ) → n ≡ suc m → 0 < n
-some_above n m e = omega (arith, e)
-
 module _ {w : Setting} {h : List Entry} {halted : Bool} {t : Traffic} {ts : List Traffic} {body : List ℕ} {later : List Fed}
     (s : IsServed w h halted (t ∷ ts)) where
   first_came : LeadToOne w → (f : IsFirst w h s.connections s.all.asked s.all.came) → Stands (Request body false ∷ later) f.connection t.written
@@ -511,31 +510,15 @@ module _ {w : Setting} {h : List Entry} {halted : Bool} {t : Traffic} {ts : List
       let at = passed_at s.connections (t ∷ ts) s.passed 0 v there in
       stands_so t reading (Request body false ∷ later) gives v (subst (λ (u : Traffic). HasPassed v u) (sym (same_Some t at.0 at.1)) at.2) wrong
 
-  -- before the first posting it did not wait, and was not over, since it had sent a request
-  not_over_yet : (v : RunConnection) → Stands (Request body false ∷ later) v t.written → (asked : List Asked)
-      → HadToWait w h asked 0 0 ⊎ (IsOver v.stage × (count_by (is_of 0) (take 0 asked) ≡ length v.bodies)) → ⊥
-  not_over_yet v k asked (inl wait) = below_none wait.0 wait.4
-  not_over_yet v k asked (inr over) = by_stand (k.over over.0)
-    where
-      by_stand : (v.bodies ≡ bodies_in (Request body false ∷ later)) ⊎ IsCut (Request body false ∷ later) v.texts t.written → ⊥
-      by_stand (inl all) = none_below_some (length (bodies_in later)) (over.1 ∙ ap length all)
-      by_stand (inr cut) =
-          below_none (length t.written)
-          (subst (λ (l : List (Option (List ℕ))). length t.written < length (spoken (Request body false ∷ later) l))
-          (none_is v.texts (length v.bodies) k.told (sym over.1)) cut.part)
-
-  -- so the first posting is its own
+module _ {w : Setting} {h : List Entry} {halted : Bool} {t : Traffic} {body : List ℕ} {later : List Fed} (s : IsServed w h halted (t ∷ [])) where
+  -- where there is one connection alone, the first posting is its own
   with_first : (reading : Reading t.read) → given t.read reading ≡ Request body false ∷ later → posts_by first_worker h ≢ []
       → ((f : IsFirst w h s.connections s.all.asked s.all.came) → f.whose.traffic ≡ 0 → Stands (Request body false ∷ later) f.connection t.written → ⊥) → ⊥
   with_first reading gives some wrong =
-      let f = is_first w h halted (t ∷ ts) s some in by_number f f.whose.traffic refl
-    where
-      by_number : (f : IsFirst w h s.connections s.all.asked s.all.came) (n : ℕ) → f.whose.traffic ≡ n → ⊥
-      by_number f zero is = stands_first reading gives f.connection (ap (slice_get s.connections) (sym is) ∙ f.there) (wrong f is)
-      by_number f (suc n) is =
-          let v = first_there s.connections f.whose.traffic f.connection f.there in
-          stands_first reading gives v.0 v.1
-          (λ k. not_over_yet v.0 k s.all.asked (s.in_turn 0 0 f.whose v.0 f.is_whose v.1 (some_above f.whose.traffic n is)))
+      let f = is_first w h halted (t ∷ []) s some in
+      let v = alone s.connections t s.passed in
+      let number : f.whose.traffic ≡ 0 = (alone_at v.0 f.connection f.whose.traffic (ap (λ (l : List RunConnection). slice_get l f.whose.traffic) (sym v.1) ∙ f.there)).0 in
+      stands_first s reading gives f.connection (ap (slice_get s.connections) (sym number) ∙ f.there) (wrong f number)
 
 -- ---- spoilt runs
 
@@ -600,11 +583,11 @@ module _ (w : Setting) (h : List Entry) (halted : Bool) (t : Traffic) (reading :
               (z.came ∙ ap (λ (n : ℕ). came_with n z.body ∷ z.more) service ∙ ap (λ (b : List ℕ). came_with 0 b ∷ z.more) second),
         )
 
-  -- A run is refused unless what it posts first is the first request of the first connection.
-  pub refused_first : (ts : List Traffic) → posts_by first_worker h ≢ [] → LeadToOne w
+  -- A run over one connection is refused unless what it posts first is its first request.
+  pub refused_first : posts_by first_worker h ≢ [] → LeadToOne w
       → ((others : List Came) → posts_by first_worker h ≡ posts_of 0 (map posting_of (came_with 0 body ∷ others)) → ⊥)
-      → IsServed w h halted (t ∷ ts) → ⊥
-  refused_first ts some one wrong s = with_first s reading gives some (λ f number k. wrong f.others (first_posted s one f k))
+      → IsServed w h halted (t ∷ []) → ⊥
+  refused_first some one wrong s = with_first s reading gives some (λ f number k. wrong f.others (first_posted s one f k))
 
   -- It is refused where there is one request alone, and more is posted.
   pub refused_once : later ≡ [] → posts_by first_worker h ≢ [] → LeadToOne w
@@ -623,15 +606,15 @@ module _ (w : Setting) (h : List Entry) (halted : Bool) (t : Traffic) (reading :
   answer_first (x ∷ texts) text some answered e =
       (texts, e ∙ ap (λ (y : Option (List ℕ)). answer y false ++ spoken later texts) (answered x refl))
 
-  -- It is refused where this is not what was written first, unless it halted or a write failed.
+  -- It is refused where this is not what was written first, unless it halted, a text goes out or a write failed.
   pub refused_cut : halted ≡ false → posts_by first_worker h ≢ [] → LeadToOne w → (text : Option (List ℕ))
       → response w (past_of w h) first_worker 0 (came_with 0 body) ≡ text
       → ((texts : List (Option (List ℕ))) → t.written ≡ answer text false ++ spoken later texts → ⊥)
-      → (s : IsServed w h halted (t ∷ [])) → ((v : RunConnection) → slice_get s.connections 0 ≡ Some v → v.stage ≢ Stages.WriteFailed) → ⊥
-  refused_cut goes some one text is_text apart s unfailed =
+      → (s : IsServed w h halted (t ∷ [])) → ((v : RunConnection) → slice_get s.connections 0 ≡ Some v → IsUncut v) → ⊥
+  refused_cut goes some one text is_text apart s uncut =
       with_first s reading gives some
       (λ f number k.
-      let whole = k.whole (unfailed f.connection (subst (λ (n : ℕ). slice_get s.connections n ≡ Some f.connection) number f.there)) in
+      let whole = k.whole (uncut f.connection (subst (λ (n : ℕ). slice_get s.connections n ≡ Some f.connection) number f.there)) in
       let told : length f.connection.texts ≡ length f.connection.bodies =
       eqb-true (length f.connection.texts) (length f.connection.bodies) (all_at is_told s.connections f.whose.traffic f.connection (s.told goes) f.there) in
       let first = answer_first f.connection.texts text
@@ -650,17 +633,18 @@ module _ (w : Setting) (h : List Entry) (halted : Bool) (t : Traffic) (reading :
       (only_came s f v.0 v.1 ∙ ap (λ (l : List Came). map Some (came_with f.connection.service f.body ∷ l)) e)
       (subst (λ (l : List RunConnection). AreToldEarly w h l s.all.asked) v.1 s.told_early))
 
-  -- It is refused where this is not what was written first, unless a write failed, also where it halted, if the first
-  -- request was answered before another was posted.
+  -- It is refused where this is not what was written first, unless a text goes out or a write failed, also where it
+  -- halted, if the first request was answered before another was posted.
   pub refused_untold : is_finished w (past_of w h) first_worker 0 0 ≡ true → posts_by first_worker h ≢ [] → LeadToOne w
       → (text : Option (List ℕ)) → response w (past_of w h) first_worker 0 (came_with 0 body) ≡ text
       → (posts_by first_worker h ≡ posts_of 0 (map posting_of (came_with 0 body ∷ [])) → ⊥)
       → ((texts : List (Option (List ℕ))) → t.written ≡ answer text false ++ spoken later texts → ⊥)
-      → (s : IsServed w h halted (t ∷ [])) → ((v : RunConnection) → slice_get s.connections 0 ≡ Some v → v.stage ≢ Stages.WriteFailed) → ⊥
-  refused_untold early some one text is_text more apart s unfailed =
+      → (s : IsServed w h halted (t ∷ []))
+      → ((v : RunConnection) → slice_get s.connections 0 ≡ Some v → IsUncut v) → ⊥
+  refused_untold early some one text is_text more apart s uncut =
       with_first s reading gives some
       (λ f number k.
-      let whole = k.whole (unfailed f.connection (subst (λ (n : ℕ). slice_get s.connections n ≡ Some f.connection) number f.there)) in
+      let whole = k.whole (uncut f.connection (subst (λ (n : ℕ). slice_get s.connections n ≡ Some f.connection) number f.there)) in
       let first = answer_first f.connection.texts text
       (first_told early s f f.others refl
       (λ none. more (first_posted s one f k ∙ ap (λ (l : List Came). posts_of 0 (map posting_of (came_with 0 body ∷ l))) none)))

@@ -16,30 +16,11 @@ use Rattle.http_port.specs.declared.head_reader.Fed.{Fed}
 use Rattle.http_port.specs.Connections.{Reading, end_of, given}
 use Rattle.http_port.specs.Serving.{bodies_in}
 use Rattle.http_port.proofs.TalkLemmas.{spoken}
-use Rattle.http_connection.specs.declared.stage.Stage.TheVariants as Stages
-use Rattle.http_connection.specs.Stages.{IsOver}
+use Rattle.conn_future.specs.declared.stage.Stage.TheVariants as Stages
 use Rattle.http_connection.proofs.Histories.{closes_in, closing_given, unclosed}
 use Rattle.run_theorem.specs.RunConnections.{RunConnection, HasPassed}
-use Rattle.run_theorem.specs.Served.{AreOneByOne, HadToWait, AreInTurn, AreResponses, AreToldEarly}
+use Rattle.run_theorem.specs.Served.{AreOneByOne, AreResponses, AreToldEarly}
 use Rattle.test_trials.proofs.Requests.{bodies_by, talk_by}
-
--- a connection that reads on, whose requests were all taken and told these texts
-abbrev pub read_on : List Fed → List (Option (List ℕ)) → RunConnection
-read_on fs texts = record { door = Some 0; service = 0; stage = Stages.Reads; bodies = bodies_in fs; texts = texts }
-
--- it has passed, where what is to be written was written
-pub passed_on : (t : Traffic) (fs : List Fed) (texts : List (Option (List ℕ))) → ((r : Reading t.read) → given t.read r ≡ fs)
-    → length (bodies_in fs) ≡ length texts + 0 → t.written ≡ spoken fs texts → HasPassed (read_on fs texts) t
-passed_on t fs texts gives even written = record {
-  stage = λ e. let clash : Stages.Reads ≡ Stages.Spent = e in cc;
-  keeps = λ r. ∣ (
-    record {
-      bodies = sym (take-length (bodies_in fs)) ∙ ap (take (length (bodies_in fs))) (sym (bodies_by t.read r fs (gives r)));
-      texts = even;
-    },
-    written ∙ sym (talk_by t.read r fs texts (gives r)),
-  ) ∣₁;
-}
 
 -- a connection of which a read failed, from which these were taken and which was told these texts
 abbrev pub read_failed : List (List ℕ) → List (Option (List ℕ)) → RunConnection
@@ -71,6 +52,18 @@ pub passed_out : (t : Traffic) (fs : List Fed) (texts : List (Option (List ℕ))
     → length texts ≡ length (bodies_in fs) → closes_in fs ≡ false → t.written ≡ spoken fs texts → HasPassed (read_out fs texts) t
 passed_out t fs texts gives even stays written = record {
   stage = λ e. let clash : Stages.Ended ≡ Stages.Spent = e in cc;
+  keeps = (passed_to_the_end t fs texts gives even stays written).keeps;
+}
+
+-- a connection that reads on, whose requests were all taken and told these texts
+abbrev pub read_on : List Fed → List (Option (List ℕ)) → RunConnection
+read_on fs texts = record { door = Some 0; service = 0; stage = Stages.Reads; bodies = bodies_in fs; texts = texts }
+
+-- it has passed as one that ended
+pub passed_on : (t : Traffic) (fs : List Fed) (texts : List (Option (List ℕ))) → ((r : Reading t.read) → given t.read r ≡ fs)
+    → length texts ≡ length (bodies_in fs) → closes_in fs ≡ false → t.written ≡ spoken fs texts → HasPassed (read_on fs texts) t
+passed_on t fs texts gives even stays written = record {
+  stage = λ e. let clash : Stages.Reads ≡ Stages.Spent = e in cc;
   keeps = (passed_to_the_end t fs texts gives even stays written).keeps;
 }
 
@@ -163,29 +156,6 @@ module _ (w : Setting) (h : List Entry) where
       (ap (λ (z : Asked). z.traffic) (same_Some x a e) ∙ same ∙ sym (ap (λ (z : Asked). z.traffic) (same_Some y b f)))
   two_by_one x y early (suc i) (suc zero) a b e f same less = absurd (none_between i less)
   two_by_one x y early i (suc (suc j)) a b e f same less = absurd (none-some b f)
-
--- ---- in turn
-
-module _ (w : Setting) (h : List Entry) (connections : List RunConnection) where
-  -- before the first connection there is no other
-  none_before : (x a : Asked) (k : ℕ) → x.traffic ≡ 0 → Some x ≡ Some a → k < a.traffic → ⊥
-  none_before x a k first e less =
-      none_below k (subst (λ (n : ℕ). k < n) (ap (λ (z : Asked). z.traffic) (sym (same_Some x a e)) ∙ first) less)
-
-  -- one request alone came on the first
-  pub in_turn_alone : (x : Asked) → x.traffic ≡ 0 → AreInTurn w h connections (x ∷ [])
-  in_turn_alone x first zero k a v e there less = absurd (none_before x a k first e less)
-  in_turn_alone x first (suc j) k a v e there less = absurd (none-some a e)
-
-  -- of two the first came on it, and before the second each connection before its own waited or was over
-  pub two_in_turn : (x y : Asked) → x.traffic ≡ 0
-      → ((k : ℕ) (v : RunConnection) → slice_get connections k ≡ Some v → k < y.traffic
-      → HadToWait w h (x ∷ y ∷ []) 1 k ⊎ (IsOver v.stage × (count_by (is_of k) (x ∷ []) ≡ length v.bodies)))
-      → AreInTurn w h connections (x ∷ y ∷ [])
-  two_in_turn x y first second zero k a v e there less = absurd (none_before x a k first e less)
-  two_in_turn x y first second (suc zero) k a v e there less =
-      second k v there (subst (λ (z : Asked). k < z.traffic) (sym (same_Some y a e)) less)
-  two_in_turn x y first second (suc (suc j)) k a v e there less = absurd (none-some a e)
 
 -- ---- told early
 

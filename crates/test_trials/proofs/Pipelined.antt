@@ -36,7 +36,7 @@ use Rattle.run_theorem.specs.RunConnections.{RunConnection, HasPassed}
 use Rattle.run_theorem.specs.Served.{AreResponses, IsServed}
 use Rattle.test_trials.proofs.Requests.{judged, more_requests, cons_nil}
 use Rattle.test_trials.proofs.Sent.{go, more, read_go, read_more, head_go, gives_more, reading_more}
-use Rattle.test_trials.proofs.Parts.{read_on, passed_on, IsTextAt, text_at, told_responses, none_below, two_by_one, two_in_turn, has_text, two_told}
+use Rattle.test_trials.proofs.Parts.{read_on, passed_on, IsTextAt, text_at, told_responses, two_by_one, has_text, two_told}
 use Rattle.test_trials.proofs.First.{differ, first_op, holds_alone, IsOther, LeadToOne, refused, refused_first, refused_early}
 use Rattle.test_trials.proofs.TwoCalls.{setting, history, another_order, at_once, go_first, go_open, post_more, is_post_more, call_go, call_more, text_go, text_more, written_go, written_more, came_go, came_more, is_posted, response_go, response_more}
 
@@ -78,7 +78,7 @@ connection = read_on gives texts
 
 passed : HasPassed connection (wrote written)
 unfolding digits
-passed = passed_on (wrote written) gives texts gives_read refl refl
+passed = passed_on (wrote written) gives texts gives_read refl refl refl
 
 -- its requests
 abbrev asked_go : Asked
@@ -127,7 +127,6 @@ served = record {
   came = refl;
   posted = is_posted;
   one_by_one = two_by_one setting history asked_go asked_more (λ _. subst (λ (n : ℕ). n < 1) (sym go_first) none_one);
-  in_turn = two_in_turn setting history (connection ∷ []) asked_go asked_more refl (λ k v there less. absurd (none_below k less));
   responses = responses;
   told_early = two_told setting history (connection ∷ []) asked_go asked_more (has_text (connection ∷ []) asked_go connection refl none_two) (has_text (connection ∷ []) asked_more connection refl one_two);
   told = λ _. refl;
@@ -147,7 +146,7 @@ other_first others e = differ call_more.op call_go.op refl refl (ap first_op e)
 -- what was sent behind the other was posted before it
 pub spoilt_posted_in_another_order : IsServed setting another_order false (wrote written ∷ []) → ⊥
 spoilt_posted_in_another_order =
-    refused_first setting another_order false (wrote written) reading go (Request more false ∷ []) (gives_read reading) []
+    refused_first setting another_order false (wrote written) reading go (Request more false ∷ []) (gives_read reading)
     (λ e. cons_nil _ _ e) one_door other_first
 
 -- what was sent behind the other was posted before that was answered

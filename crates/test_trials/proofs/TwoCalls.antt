@@ -182,11 +182,6 @@ pub go_open : is_finished setting (past_of setting at_once) first_worker 0 0 ≡
 unfolding encode
 go_open = refl
 
--- but at the second
-pub go_late : finished_at setting (past_of setting at_once) first_worker 2 0 ≡ 1
-unfolding encode
-go_late = refl
-
 -- the second post there
 abbrev pub post_more : Post
 post_more =

@@ -1,7 +1,7 @@
 -- The run of two calls over two connections; each has the answer to its own.
-use Rattle.std.specs.Prelude.{◌≡◌, ◌⊎◌, ◌<◌, ◌≤◌, ◌≢◌, ℕ, zero, suc, true, false, List, [], ◌∷◌, take, length, count_by, codes}
+use Rattle.std.specs.Prelude.{◌≡◌, ◌<◌, ◌≢◌, ℕ, zero, suc, true, false, List, [], ◌∷◌, take, length, count_by, codes}
 use Rattle.std.specs.Prelude.{Option, Some, slice_get}
-use Rattle.std.proofs.Common.{refl, sym, subst, arith, inl, inr}
+use Rattle.std.proofs.Common.{refl, sym, subst, arith}
 use Rattle.std.proofs.lemmas.Option.{none-some, same_Some}
 use lib.Utf8.{encode}
 use Rattle.std.specs.Fmt.{digits}
@@ -26,15 +26,14 @@ use Rattle.run_theorem.specs.Texts.{response}
 use Rattle.http_port.specs.declared.head_reader.Fed.{Fed}
 use Rattle.http_port.specs.declared.head_reader.Fed.TheVariants.{Request}
 use Rattle.http_port.specs.Talk.{answer as answer_bytes}
-use Rattle.http_connection.specs.Stages.{IsOver}
 use Rattle.run_theorem.specs.RunConnections.{RunConnection, HasPassed}
-use Rattle.run_theorem.specs.Served.{HadToWait, AreResponses, IsServed}
+use Rattle.run_theorem.specs.Served.{AreResponses, IsServed}
 use Rattle.test_trials.proofs.Requests.{cons_nil}
 use Rattle.test_trials.proofs.Sent.{go, more, read_go, read_more, gives_go, gives_more, reading_go, reading_more}
-use Rattle.test_trials.proofs.Parts.{read_on, passed_on, read_out, passed_out, IsTextAt, text_at, told_responses, none_between, two_by_one, two_in_turn, has_text, two_told}
-use Rattle.test_trials.proofs.First.{differ, IsOther, refused, refused_first}
-use Rattle.test_trials.proofs.TwoCalls.{setting, history, another_order, text_go, text_more, written_go, written_more, came_go, came_more, is_posted, at_once, is_posted_at_once, go_late, response_go, response_more, response_go_at_once, response_more_at_once}
-use Rattle.test_trials.proofs.Pipelined.{one_door, other_first}
+use Rattle.test_trials.proofs.Parts.{read_on, passed_on, read_out, passed_out, IsTextAt, text_at, told_responses, two_by_one, has_text, two_told}
+use Rattle.test_trials.proofs.First.{differ, IsOther, refused}
+use Rattle.test_trials.proofs.TwoCalls.{setting, history, text_go, text_more, written_go, written_more, came_go, came_more, is_posted, at_once, is_posted_at_once, response_go, response_more, response_go_at_once, response_more_at_once}
+use Rattle.test_trials.proofs.Pipelined.{one_door}
 
 -- the connections, on which these were written
 abbrev traffic : List ℕ → List ℕ → List Traffic
@@ -57,7 +56,7 @@ passed_go = passed_out (record { read = read_go; written = written_go }) (Reques
 passed_more : HasPassed connection_more (record { read = read_more; written = written_more })
 unfolding digits
 passed_more =
-    passed_on (record { read = read_more; written = written_more }) (Request more false ∷ []) (Some text_more ∷ []) gives_more refl refl
+    passed_on (record { read = read_more; written = written_more }) (Request more false ∷ []) (Some text_more ∷ []) gives_more refl refl refl
 
 -- the request of each
 abbrev asked_go : Asked
@@ -93,13 +92,6 @@ none_one = omega arith
 apart : (n : ℕ) → n ≡ 0 → n ≡ 1 → ⊥
 apart n one other = omega (arith, one, other)
 
--- the first is over when the second is posted
-go_over : (k : ℕ) (v : RunConnection) → slice_get connections k ≡ Some v → k < 1
-    → HadToWait setting history asked 1 k ⊎ (IsOver v.stage × (count_by (is_of k) (asked_go ∷ []) ≡ length v.bodies))
-go_over zero v e less =
-    inr (subst (λ (v : RunConnection). IsOver v.stage × (1 ≡ length v.bodies)) (same_Some connection_go v e) (inl refl, refl))
-go_over (suc k) v e less = absurd (none_between k less)
-
 pub served : IsServed setting history false (traffic written_go written_more)
 unfolding encode
 served = record {
@@ -111,7 +103,6 @@ served = record {
   came = refl;
   posted = is_posted;
   one_by_one = two_by_one setting history asked_go asked_more (λ same. absurd (apart 0 refl same));
-  in_turn = two_in_turn setting history connections asked_go asked_more refl go_over;
   responses = responses;
   told_early = two_told setting history connections asked_go asked_more (has_text connections asked_go connection_go refl none_one) (has_text connections asked_more connection_more refl none_one);
   told = λ _. refl;
@@ -128,7 +119,7 @@ waiting = waiting_go ∷ connection_more ∷ []
 
 passed_waiting : HasPassed waiting_go (record { read = read_go; written = written_go })
 unfolding digits
-passed_waiting = passed_on (record { read = read_go; written = written_go }) (Request go false ∷ []) (Some text_go ∷ []) gives_go refl refl
+passed_waiting = passed_on (record { read = read_go; written = written_go }) (Request go false ∷ []) (Some text_go ∷ []) gives_go refl refl refl
 
 all_taken_at_once : (k : ℕ) (v : RunConnection) → slice_get waiting k ≡ Some v → count_by (is_of k) asked ≡ length v.bodies
 all_taken_at_once zero v e = subst (λ (v : RunConnection). 1 ≡ length v.bodies) (same_Some waiting_go v e) refl
@@ -142,14 +133,6 @@ responses_at_once =
       (subst (IsTextAt waiting asked_more) response_more_at_once (text_at waiting asked_more connection_more (Some text_more) refl refl), tt),
     )
 
-one_one : 1 ≤ 1
-one_one = omega arith
-
-go_waits : (k : ℕ) (v : RunConnection) → slice_get waiting k ≡ Some v → k < 1
-    → HadToWait setting at_once asked 1 k ⊎ (IsOver v.stage × (count_by (is_of k) (asked_go ∷ []) ≡ length v.bodies))
-go_waits zero v e less = inl (0, asked_go, refl, refl, none_one, subst (λ (n : ℕ). 1 ≤ n) (sym go_late) one_one)
-go_waits (suc k) v e less = absurd (none_between k less)
-
 pub served_at_once : IsServed setting at_once false (traffic written_go written_more)
 unfolding encode
 served_at_once = record {
@@ -161,19 +144,10 @@ served_at_once = record {
   came = refl;
   posted = is_posted_at_once;
   one_by_one = two_by_one setting at_once asked_go asked_more (λ same. absurd (apart 0 refl same));
-  in_turn = two_in_turn setting at_once waiting asked_go asked_more refl go_waits;
   responses = responses_at_once;
   told_early = two_told setting at_once waiting asked_go asked_more (has_text waiting asked_go waiting_go refl none_one) (has_text waiting asked_more connection_more refl none_one);
   told = λ _. refl;
 }
-
--- ---- posted in another order
-
--- the later client's request was posted first, though the other had sent one
-pub spoilt_later_client_first : IsServed setting another_order false (traffic written_go written_more) → ⊥
-spoilt_later_client_first =
-    refused_first setting another_order false (record { read = read_go; written = written_go }) reading_go go [] (gives_go reading_go)
-    (record { read = read_more; written = written_more } ∷ []) (λ e. cons_nil _ _ e) one_door other_first
 
 -- ---- the answers exchanged
 

@@ -1,5 +1,6 @@
 //! Rows of connections that are served alone.
 
+use crate::talks::polled;
 use crate::talks::talk::finished;
 use std::alloc::{AllocError, Global};
 use test_rows::{Row, TableError};
@@ -46,11 +47,14 @@ fn outcome(
     finished(alloc, stream, says, piece, failing)?.text(alloc)
 }
 
-/// What it comes to whole, and a remark where that differs in pieces.
+/// What it comes to whole, and a remark where that differs in pieces, or over a wire that does not wait.
 fn in_all_pieces(alloc: Global, stream: &[u8], says: &str) -> Result<String, AllocError> {
     let mut whole = outcome(alloc, stream, says, stream.len(), &[])?;
     if !is_same_in_pieces(alloc, stream, says, whole.as_str())? {
         whole.push_str(", and it differs in pieces")?;
+    }
+    if polled::outcome(alloc, stream, says)?.as_str() != whole.as_str() {
+        whole.push_str(", and it differs over a wire that does not wait")?;
     }
     Ok(whole)
 }

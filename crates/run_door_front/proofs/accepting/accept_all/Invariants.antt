@@ -2,8 +2,10 @@ use Rattle.std.proofs.Common.{◌≡◌, take, drop}
 use Rattle.run_door_front.specs.NextSteps.{Accepts, doorway}
 use Rattle.run_door_front.proofs.accepting.accept_all.Given as goal
 
-abbrev pub invariant-loop-port : goal.invariant-loop-port
-invariant-loop-port g l = record {
-  unvisited : drop l.port-index l.ports ≡ drop l.port-index l.fn.ports;
-  visited : Accepts (λ line. (wire : g.row.D-W.Denot) × (line ≡ g.D.W.Wire.told wire)) l.most (doorway (take l.port-index l.fn.ports) l.fn.links.items) (doorway (take l.port-index l.ports) l.links.items);
+abbrev pub invariant-loop-door : goal.invariant-loop-door
+invariant-loop-door g l = record {
+  unvisited : drop l.door-index l.doors ≡ drop l.door-index l.fn.doors;
+  visited : Accepts (λ line. (wire : g.row.D-W.Denot) × (line ≡ (g.D.W.PollWire.told wire).wire)) l.most
+      (doorway (take l.door-index l.fn.doors) l.fn.connections.items l.fn.opened.items)
+      (doorway (take l.door-index l.doors) l.connections.items l.opened.items);
 }

@@ -1,11 +1,15 @@
-use Rattle.std.proofs.Common.{◌≡◌, ◌-◌, ◌^◌, count_by}
-use Rattle.run_door_front.specs.NextSteps.{Goes, going, is_over}
+-- Doors and connections go on while nothing is posted.
+use Rattle.std.proofs.Common.{◌≡◌, ◌+◌}
+use Rattle.run_door_front.specs.NextSteps.{Goes, going}
+use Rattle.run_door_front.proofs.Looking.{left}
 use Rattle.run_door_front.proofs.next.look.Given as goal
 
-abbrev pub invariant-loop-links : goal.invariant-loop-links
-invariant-loop-links g l =
-    Goes (λ line. (wire : g.row.D-W.Denot) × (line ≡ g.D.W.Wire.told wire)) l.most (going l.fn.ports l.fn.links.items l.fn.traffics.items) (going l.ports l.links.items l.traffics.items)
+abbrev pub invariant-loop-left : goal.invariant-loop-left
+invariant-loop-left g l =
+    Goes (λ line. (wire : g.row.D-W.Denot) × (line ≡ (g.D.W.PollWire.told wire).wire)) l.most
+    (going l.fn.doors l.fn.connections.items l.fn.opened.items l.fn.queue.items l.fn.traffics.items)
+    (going l.doors l.connections.items l.opened.items l.queue.items l.traffics.items)
 
--- Each turn but the last ends a connection.
-abbrev pub decreases-loop-links : goal.decreases-loop-links
-decreases-loop-links g l = 2 ^ 63 - count_by is_over l.links.items
+-- each turn but the last has somebody come or a connection end, or it is counted
+abbrev pub decreases-loop-left : goal.decreases-loop-left
+decreases-loop-left g l = left l.most (going l.doors l.connections.items l.opened.items l.queue.items l.traffics.items) + l.left

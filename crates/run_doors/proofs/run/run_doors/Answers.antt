@@ -15,8 +15,8 @@ new-front-requires g c =
     let o = c.in_ok-ports.ensures in
     record {
       empty =
-          empty_so c.new-kept.result (g.D.Doors.told c.args.doors.now).tally (items_where_true o.opened (doors_of (parts_of c.args.program))) (c.new-kept.ensures.ports ∙ o.ports)
-          c.new-kept.ensures.links c.new-kept.ensures.traffics c.new-kept.ensures.halted c.new-kept.ensures.spent;
+          empty_so c.new-kept.result (g.D.Doors.told c.args.doors.now).tally (items_where_true o.opened (doors_of (parts_of c.args.program))) (c.new-kept.ensures.doors ∙ o.ports)
+          c.new-kept.ensures.connections c.new-kept.ensures.traffics c.new-kept.ensures.halted c.new-kept.ensures.spent;
     }
 
 pub returns : goal.returns
@@ -26,14 +26,14 @@ returns g c = λ source output.
     let was = g.L.Link.told c.args.link.now in
     let is = g.L.Link.told c.run_over.new.link in
     let o = c.in_ok-ports.ensures in
-    let begins : c.new-front.result.kept.now.ports ≡ c.in_ok-ports.field-0.ports.items =
-    ap (λ k. k.ports) c.new-front.ensures.kept ∙ c.new-kept.ensures.ports in
+    let begins : c.new-front.result.kept.now.doors ≡ c.in_ok-ports.field-0.ports.items =
+    ap (λ k. k.doors) c.new-front.ensures.kept ∙ c.new-kept.ensures.doors in
     let begun = c.new-front.ensures.begun (parts_of c.args.program)
     (within_so t (g.D.Doors.told c.args.doors.now).tally o.opened c.new-front.result.kept.now (begins ∙ o.ports)) in
     let after = c.in_ok-finished.ensures.ran c.new-front.result begun.0 (refl, refl, begun.2) begun.1 in
     let kept = c.kept-2-1.given.1 (sym (after.1.0 ∙ c.new-front.ensures.same_kept)) in
     doored_by
-    (λ line. (wire : _) × (line ≡ g.D.D.W.Wire.told wire))
+    (λ line. (wire : _) × (line ≡ (g.D.D.W.PollWire.told wire).wire))
     c.args.connections t
     (g.D.Doors.told c.args.doors.now)
     (g.D.Doors.told c.open_doors.new.doors)
@@ -51,11 +51,10 @@ returns g c = λ source output.
     (g.D.Doors.told c.give_back.new.doors)
     k c.in_ok-finished.finished it) kept
     (record {
-      back = c.in_ok-back.ensures.doors;
-      status =
-          c.status_of-status.ensures
-          ∙ status_by _ _ _ _ _ _ c.in_ok-finished.finished.spent c.halted-halted.ensures refl c.in_ok-back.ensures.failed;
-      report = c.with_traffic-report.ensures ∙ ap (with_traffic c.in_ok-finished.finished.report) c.in_ok-back.ensures.traffic;
+      back = record { traffic = c.in_ok-back.back.traffic; failed = c.in_ok-back.back.failed };
+      closes = c.in_ok-back.ensures;
+      status = c.status_of-status.ensures ∙ status_by _ _ _ _ _ _ c.in_ok-finished.finished.spent c.halted-halted.ensures refl refl;
+      report = c.with_traffic-report.ensures;
     }))
     source output was is c.in_ok-finished.ensures.trips _ _
     (ap (λ n. outside_of source output (g.D.Doors.told c.args.doors.now)

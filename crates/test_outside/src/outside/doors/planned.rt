@@ -12,6 +12,11 @@ use test_rows::{Row, TableError};
 /// For how many bytes a wire has room.
 const ROOM: usize = 4;
 
+/// Which calls of a wire come too early, where its word ends in `~`, and where it does not.
+const EARLY: &[u64] = &[0, 3];
+
+const NEVER: &[u64] = &[];
+
 /// Visits the doors of a row, a line each, at the locations that are opened, and says what came and what is told then.
 pub fn done(alloc: Global, row: &Row<'_>) -> Result<String, TableError> {
     let mut said = String::new(alloc);
@@ -57,7 +62,7 @@ fn told_unfailed(
     tell_counts(alloc, doors.counts(), doors.faults(), said)?;
     tell_tries(doors.tries(), said)?;
     tell_doors(alloc, doors.returned_doors(), said)?;
-    tell_unfailed(doors.returned(), said)
+    tell_unfailed(alloc, doors.returned(), said)
 }
 
 fn told_scripted(
@@ -68,10 +73,11 @@ fn told_scripted(
     tell_counts(alloc, doors.counts(), doors.faults(), said)?;
     tell_tries(doors.tries(), said)?;
     tell_doors(alloc, doors.returned_doors(), said)?;
-    tell_scripted(doors.returned(), said)
+    tell_scripted(alloc, doors.returned(), said)
 }
 
-/// Doors of which each word is a connection with these bytes.
+/// Doors of which each word is a connection with these bytes, whose first and fourth calls come too early where a `~`
+/// stands behind them.
 fn expect_unfailed(
     alloc: Global,
     row: &Row<'_>,
@@ -88,7 +94,8 @@ fn expect_unfailed(
 fn unfailing_door(alloc: Global, line: &str, quiet: u64) -> Result<UnfailingDoor, AllocError> {
     let mut door = UnfailingDoor::new(alloc, quiet);
     for word in line.split(' ') {
-        door.expect(word.as_bytes(), ROOM)?;
+        let (bytes, early) = early_calls(word);
+        door.expect(bytes.as_bytes(), ROOM, early)?;
     }
     Ok(door)
 }
@@ -127,14 +134,23 @@ fn expect_visit(door: &mut ScriptedDoor, word: &str) -> Result<(), AllocError> {
     }
 }
 
-/// A connection with the bytes of a word, whose second call fails where a `!` stands behind them, and each write where
-/// a `|` does.
+/// A connection with the bytes of a word. Its first and fourth calls come too early where the word ends in `~`; of the
+/// others the second fails where a `!` stands before that, and each write where a `|` does.
 fn expect_connection(door: &mut ScriptedDoor, word: &str) -> Result<(), AllocError> {
+    let (word, early) = early_calls(word);
     if let Some(bytes) = word.strip_suffix("!") {
-        return door.expect(bytes.as_bytes(), ROOM, 2, &[1]);
+        return door.expect(bytes.as_bytes(), ROOM, 2, &[1], early);
     }
     if let Some(bytes) = word.strip_suffix("|") {
-        return door.expect(bytes.as_bytes(), 0, 2, &[]);
+        return door.expect(bytes.as_bytes(), 0, 2, &[], early);
     }
-    door.expect(word.as_bytes(), ROOM, 2, &[])
+    door.expect(word.as_bytes(), ROOM, 2, &[], early)
+}
+
+/// The rest of a word, and which calls of its wire come too early.
+fn early_calls(word: &str) -> (&str, &[u64]) {
+    match word.strip_suffix("~") {
+        Some(rest) => (rest, EARLY),
+        None => (word, NEVER),
+    }
 }

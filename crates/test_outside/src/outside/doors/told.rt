@@ -2,7 +2,7 @@
 
 use crate::outside::doors::visits::add_bytes;
 use outside_doors::{Counts, DoorCounts, Return, Try};
-use outside_traits::{ScriptedWire, UnfailingWire};
+use outside_memory_doors::{ScriptedPollWire, UnfailingPollWire};
 use std::alloc::{AllocError, Global};
 
 /// The counts, in a line.
@@ -78,7 +78,8 @@ fn tell_close(is_closed: bool, said: &mut String) -> Result<(), AllocError> {
 
 /// The wires that came back, a line each.
 pub fn tell_unfailed(
-    returned: &[Return<UnfailingWire>],
+    alloc: Global,
+    returned: &[Return<UnfailingPollWire>],
     said: &mut String,
 ) -> Result<(), AllocError> {
     for back in returned {
@@ -86,13 +87,15 @@ pub fn tell_unfailed(
         tell_bytes(wire.given(), wire.taken(), said)?;
         tell_failures(back.is_lost(), back.is_cut(), said)?;
         tell_end(back.has_ended(), said)?;
+        tell_waits(alloc, back.waits(), said)?;
     }
     Ok(())
 }
 
 /// The same of wires that follow a script.
 pub fn tell_scripted(
-    returned: &[Return<ScriptedWire>],
+    alloc: Global,
+    returned: &[Return<ScriptedPollWire>],
     said: &mut String,
 ) -> Result<(), AllocError> {
     for back in returned {
@@ -100,6 +103,7 @@ pub fn tell_scripted(
         tell_bytes(wire.given(), wire.taken(), said)?;
         tell_failures(back.is_lost(), back.is_cut(), said)?;
         tell_end(back.has_ended(), said)?;
+        tell_waits(alloc, back.waits(), said)?;
     }
     Ok(())
 }
@@ -129,4 +133,14 @@ fn tell_end(has_ended: bool, said: &mut String) -> Result<(), AllocError> {
         said.push_str(" ended")?;
     }
     Ok(())
+}
+
+/// How often it could move nothing yet, where it ever was so.
+fn tell_waits(alloc: Global, waits: u64, said: &mut String) -> Result<(), AllocError> {
+    if waits == 0 {
+        return Ok(());
+    }
+    let digits = waits.to_string(alloc)?;
+    said.push_str(" waited ")?;
+    said.push_str(digits.as_str())
 }

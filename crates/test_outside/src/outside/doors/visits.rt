@@ -1,15 +1,19 @@
 //! What comes in at doors.
 
 use outside_doors::{Accept, Door, Doors};
-use outside_traits::{Failed, Wire};
+use outside_polling::{PollWire, Ready};
+use outside_traits::Failed;
 use std::alloc::AllocError;
 
 /// How many reads there are of a connection at most.
 const READS: u32 = 20;
 
+/// How many writes there are of a connection at most.
+const WRITES: u32 = 3;
+
 /// Opens a door at each location, knocks at it so often, answers each connection with `ok`, and gives all back. It says
-/// what it met: `>` and the bytes of a connection, `.` where nobody had come, `#` where nobody comes any more, and `!`
-/// of what failed.
+/// what it met: `>` and the bytes of a connection, `~` where it could move none yet, `.` where nobody had come, `#`
+/// where nobody comes any more, and `!` of what failed.
 pub fn visit_all<D: Doors>(
     doors: &mut D,
     locations: &str,
@@ -65,23 +69,34 @@ fn answer<D: Doors>(
     Ok(())
 }
 
-fn talk<W: Wire>(wire: &mut W, said: &mut String) -> Result<(), AllocError> {
+fn talk<W: PollWire>(wire: &mut W, said: &mut String) -> Result<(), AllocError> {
     said.push('>')?;
     read_all(wire, said)?;
-    if wire.write(b"ok").is_err() {
-        said.push('!')?;
-    }
+    write_once(wire, said)?;
     wire.close();
     Ok(())
 }
 
-fn read_all<W: Wire>(wire: &mut W, said: &mut String) -> Result<(), AllocError> {
+fn read_all<W: PollWire>(wire: &mut W, said: &mut String) -> Result<(), AllocError> {
     let mut buffer = [0; 3];
     for _ in 0..READS {
-        match wire.read(&mut buffer) {
-            Ok(0) => break,
-            Ok(count) => add_bytes(said, &buffer[..count])?,
+        match wire.try_read(&mut buffer) {
+            Ok(Ready::Done(0)) => break,
+            Ok(Ready::Done(count)) => add_bytes(said, &buffer[..count])?,
+            Ok(Ready::NotYet) => said.push('~')?,
             Err(Failed) => said.push('!')?,
+        }
+    }
+    Ok(())
+}
+
+/// Writes until some bytes went out or a write failed.
+fn write_once<W: PollWire>(wire: &mut W, said: &mut String) -> Result<(), AllocError> {
+    for _ in 0..WRITES {
+        match wire.try_write(b"ok") {
+            Ok(Ready::Done(_)) => break,
+            Ok(Ready::NotYet) => said.push('~')?,
+            Err(Failed) => return said.push('!'),
         }
     }
     Ok(())

@@ -1,22 +1,32 @@
 -- The connection is told the text of its request.
-use Rattle.std.proofs.Common.{◌≡◌, refl, sym, ap, subst, None, IfOk}
-use Rattle.std.specs.Option.{option_copied}
+use Rattle.std.proofs.Common.{◌≡◌, ◌∷◌, ◌++◌, [], refl, sym, ap, subst, None}
 use Rattle.behaviour_tree.specs.PartsView.{parts_of}
-use Rattle.http_connection.specs.declared.stage.Stage.TheVariants as Stages
-use Rattle.http_connection.specs.Seen.{seen}
-use Rattle.run_door_front.specs.Keeping.{ClientTold}
-use Rattle.run_door_front.specs.NextSteps.{stage_at}
-use Rattle.run_door_front.specs.AnswerSteps.{told_of, TellsText}
+use Rattle.conn_future.specs.declared.stage.Stage.TheVariants as Stages
+use Rattle.conn_future.specs.Talking.{seen, IsTalking}
+use Rattle.outside_polling.specs.Polls.{PollTold}
+use Rattle.run_door_front.specs.Keeping.{ClientTold, stage_at}
+use Rattle.run_door_front.specs.AnswerSteps.{told_of, IsTextOf, HasTold}
 use Rattle.run_door_front.proofs.Owing.{owing_is, client_told}
 use Rattle.run_door_front.proofs.link.Client.answer.Goals as goal
 
-pub tell-requires : goal.tell-requires
-tell-requires g c = subst (λ (l : ClientTold). stage_at l ≡ Stages.Owes) (sym c.self.view_is) (owing_is c.requires.0 c.args.self.now c.requires.1).0
+pub give-requires : goal.give-requires
+give-requires g c = subst (λ (l : ClientTold). stage_at l ≡ Stages.Owes) (sym c.self.view_is) (owing_is c.requires.0 c.args.self.now c.requires.1).0
 
 pub returns : goal.returns
 returns g c = λ place owing.
-    let now : ClientTold = record { service = c.self.inside.service; seen = seen c.tell.new.connection.kept (g.W.Wire.told c.tell.new.connection.wire); pending = None } in
-    client_told c.tell.result (parts_of c.args.program.now) (told_of place c.args.outcomes.now) c.in_ok-text.text c.args.self.now now (c.in_ok-text.ensures place owing)
-    (subst (λ t. IfOk c.tell.result (λ _. TellsText t c.args.self.now.seen now.seen)) c.bytes_of.ensures
-    (subst (λ (l : ClientTold). IfOk c.tell.result (λ _. TellsText (option_copied c.bytes_of.result) l.seen now.seen)) c.self.view_is c.tell.ensures))
-    refl (ap (λ (l : ClientTold). l.service) c.self.view_is)
+    let told = g.W.PollWire.told in
+    let x = c.self.inside in
+    let was : ClientTold = record { service = x.service; seen = seen x.task.kept (told x.task.wire); waits = (told x.task.wire).waits; pending = x.pending } in
+    let y = c.give.new.self in
+    let now : ClientTold = record { service = x.service; seen = seen y.kept (told y.wire); waits = (told y.wire).waits; pending = None } in
+    let text = c.in_ok-text.text in
+    subst (λ l. HasTold (parts_of c.args.program.now) (told_of place c.args.outcomes.now) l now) c.self.view_is
+    (client_told (parts_of c.args.program.now) (told_of place c.args.outcomes.now) text was now
+    (subst (λ l. IsTextOf (parts_of c.args.program.now) (told_of place c.args.outcomes.now) l text) (sym c.self.view_is) (c.in_ok-text.ensures place owing))
+    (record {
+      owing = subst (λ (l : ClientTold). stage_at l ≡ Stages.Owes) (sym c.self.view_is) (owing_is c.requires.0 c.args.self.now c.requires.1).0;
+      writes = c.give.ensures.stage;
+      talks = λ first bodies texts h.
+          subst (λ t. IsTalking first now.seen bodies (texts ++ t ∷ [])) c.in_ok-said.ensures (c.give.ensures.talks first bodies texts h);
+    })
+    refl refl (ap (λ w. (told w).waits) c.give.ensures.wire))

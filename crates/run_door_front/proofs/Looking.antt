@@ -1,0 +1,275 @@
+-- What a look comes to.
+use Rattle.std.proofs.Common.{◌≡◌, refl, sym, ap, ap₂, ◌∙◌, subst, arith, ℕ, zero, suc, ◌+◌, ◌*◌, ◌-◌, ◌^◌, ◌<◌, ◌≤◌, min, Bool, true, false, ◌&&◌, ◌||◌, ◌⊎◌, inl, inr, List, [], ◌∷◌, ◌++◌, length, map, Some, nat_le, nat_eq, count_by, slice_get, slice_set, length-append}
+use Rattle.std.proofs.lemmas.Bool.{and_parts, true≢false}
+use Rattle.std.specs.List.{list_all, sum_by}
+use Rattle.outside_doors.specs.Counts.{added}
+use Rattle.conn_future.specs.declared.stage.Stage.TheVariants as Stages
+use Rattle.outside_traits.specs.Told.{WireTold}
+use Rattle.office_core.specs.declared.front.Posting.{Posting}
+use Rattle.run_theorem.specs.declared.front.Next.{Next}
+use Rattle.run_theorem.specs.declared.front.Next.TheVariants as nexts
+use Rattle.run_theorem.specs.Calls.{most_postings}
+use Rattle.run_door_front.specs.Keeping.{lead_of, Lead, ListenerTold, ClientTold, stage_at, is_open, asks_at, asks, owes, is_so, asks_there, owes_there, rests_at, wires_to, leads_to, closed_off, IsOrdered}
+use Rattle.run_door_front.specs.NextSteps.{wires_of, all_owing, has_room, after_rest, AreNewLinks, ClientsGoOn, LinksGoOn, AreTried, doorway, Accepts, lined, IsQueue, IsPaused, IsPausedAt, queued, PollsAll, Listing, listing, Hands, Going, going, Goes, HasPaused, HavePaused, Posts, Looks}
+use Rattle.run_door_front.proofs.Entries.{one_if, count_cons}
+use Rattle.run_door_front.proofs.Leading.{led-more}
+use Rattle.run_door_front.proofs.Doors.{leads-same, all-same, all-further, all_tried-since, rests-on, one_more}
+use Rattle.run_door_front.proofs.Resting.{is_done, all-rested, tried-rested, sums-rested, done-rested, rests-rested}
+use Rattle.run_door_front.proofs.Links.{links-same, links-more, links-on, clients-long}
+use Rattle.run_door_front.proofs.Lining.{unasked, open_long, opened_owing, first_asks, none_asks, ordered-taken}
+use Rattle.run_door_front.proofs.Polling.{lines-none, lines-further, paused_since}
+
+-- ---- connections that went on
+
+-- those that do not ask did not, also where more came
+pub unasked_links : (IsMade : WireTold → Type 0) (leads : List Lead) (ls ms : List ClientTold) → LinksGoOn IsMade leads ls ms → (k : ℕ) → asks_there ms k ≡ false → asks_there ls k ≡ false
+unasked_links IsMade leads [] ms g k e = refl
+unasked_links IsMade leads (l ∷ ls) [] g k e = absurd g
+unasked_links IsMade leads (l ∷ ls) (m ∷ ms) g zero e = unasked l m g.0 e
+unasked_links IsMade leads (l ∷ ls) (m ∷ ms) g (suc k) e = unasked_links IsMade leads ls ms g.1 k e
+
+-- to each service lead as many
+pub leads_on : (n : ℕ) (ls ms : List ClientTold) → ClientsGoOn ls ms → count_by (leads_to n) ms ≡ count_by (leads_to n) ls
+leads_on n [] [] g = refl
+leads_on n [] (m ∷ ms) g = absurd g
+leads_on n (l ∷ ls) [] g = absurd g
+leads_on n (l ∷ ls) (m ∷ ms) g =
+    count_cons (leads_to n) m ms ∙ ap₂ (λ (s : ℕ) (c : ℕ). one_if (nat_eq n s) + c) g.0.service (leads_on n ls ms g.1) ∙ sym (count_cons (leads_to n) l ls)
+
+-- a connection of which nothing comes, and that does not ask
+has_paused : (waits : ℕ) (m : ClientTold) → IsPaused waits m → asks m ≡ false → HasPaused waits m
+has_paused waits m (inl (inl asking)) e = absurd (true≢false (sym (asks_so asking) ∙ e))
+  where
+    asks_so : stage_at m ≡ Stages.Asks → asks m ≡ true
+    asks_so is = ap asks_at is
+has_paused waits m (inl (inr owing)) e = inl owing
+has_paused waits m (inr more) e = inr more
+
+none_fallen : (a cap : ℕ) → min 0 cap ≤ a
+none_fallen a cap = omega arith
+
+-- the same of each
+pub have_paused : (IsMade : WireTold → Type 0) (leads : List Lead) (ls ms ns : List ClientTold) → LinksGoOn IsMade leads ls ms → ClientsGoOn ms ns
+    → ((k : ℕ) → IsPausedAt ms ns k) → ((k : ℕ) → asks_there ns k ≡ false) → HavePaused ls ns
+have_paused IsMade leads [] [] [] g h p none = tt
+have_paused IsMade leads [] [] (n ∷ ns) g h p none = absurd h
+have_paused IsMade leads [] (m ∷ ms) [] g h p none = absurd h
+have_paused IsMade leads [] (m ∷ ms) (n ∷ ns) g h p none = (
+  has_paused 0 n (paused_since 0 m.waits n (none_fallen m.waits (2 ^ 64 - 1)) (p 0 m n refl refl)) (none 0),
+  have_paused IsMade leads [] ms ns g.2 h.1 (λ k. p (suc k)) (λ k. none (suc k)),
+)
+have_paused IsMade leads (l ∷ ls) [] ns g h p none = absurd g
+have_paused IsMade leads (l ∷ ls) (m ∷ ms) [] g h p none = absurd h
+have_paused IsMade leads (l ∷ ls) (m ∷ ms) (n ∷ ns) g h p none = (
+  has_paused l.waits n (paused_since l.waits m.waits n g.0.waits (p 0 m n refl refl)) (none 0),
+  have_paused IsMade leads ls ms ns g.1 h.1 (λ k. p (suc k)) (λ k. none (suc k)),
+)
+
+-- ---- how much is left to do
+
+-- the connections that may still come, each for two, and those that may still end
+abbrev pub left : ℕ → Going → ℕ
+left most x = 2 * (most - length x.connections) + length x.opened
+
+module _ (IsMade : WireTold → Type 0) (most : ℕ) where
+  -- ---- all of it goes on
+
+  pub goes-none : (x : Going) → Goes IsMade most x x
+  goes-none x = record {
+    doors = all-same x.doors;
+    connections = links-same IsMade (map lead_of x.doors) x.connections;
+    traffics = refl;
+    line = lines-none x.connections x.queue;
+    ordered = λ o. o;
+    within = λ h. h;
+    wires = λ h. h;
+    led = λ h all. all;
+  }
+
+  -- connections came
+  pub goes-accepts : (x y : Going) (doors : List ListenerTold) (links : List ClientTold) (opened : List ℕ) → Goes IsMade most x y
+      → Accepts IsMade most (doorway y.doors y.connections y.opened) (doorway doors links opened) → Goes IsMade most x (going doors links opened y.queue y.traffics)
+  goes-accepts x y doors links opened g a = record {
+    doors = all-further x.doors y.doors doors g.doors a.takes.goes;
+    connections = subst (LinksGoOn IsMade (map lead_of x.doors) x.connections) (sym a.takes.grown)
+        (links-more IsMade (map lead_of x.doors) x.connections y.connections a.takes.more g.connections
+        (subst (λ ss. AreNewLinks IsMade ss a.takes.more) (leads-same x.doors y.doors g.doors) a.takes.fresh));
+    traffics = g.traffics;
+    line = g.line;
+    ordered = λ o. a.takes.ordered y.queue (g.ordered o);
+    within = λ h. elim a.takes.fits [
+      | inl none ↦ (let before = g.within h in let long = ap length a.takes.grown ∙ length-append y.connections a.takes.more in omega (arith, before, long, none))
+      | inr fit ↦ fit
+    ];
+    wires = λ h.
+        let before : sum_by wires_of y.doors ≡ length y.connections = g.wires h in
+        let after = a.takes.wires (omega arith) in
+        let long = ap length a.takes.grown ∙ length-append y.connections a.takes.more in
+        omega arith;
+    led = λ h all. led-more y.doors doors y.connections links a.takes.more a.takes.grown (a.takes.led (no_more _ _ (g.wires h))) (g.led h all);
+  }
+    where
+      no_more : (a b : ℕ) → a ≡ b → a ≤ b
+      no_more a b e = omega arith
+
+  -- connections were polled
+  pub goes-polls : (x y : Going) (links : List ClientTold) (opened queue : List ℕ) → Goes IsMade most x y
+      → PollsAll (queued y.connections y.opened y.queue) (queued links opened queue) → Goes IsMade most x (going y.doors links opened queue y.traffics)
+  goes-polls x y links opened queue g p = record {
+    doors = g.doors;
+    connections = links-on IsMade (map lead_of x.doors) x.connections y.connections links g.connections p.goes;
+    traffics = g.traffics;
+    line = lines-further x.connections y.connections x.queue y.queue queue (unasked_links IsMade (map lead_of x.doors) x.connections y.connections g.connections) g.line p.line;
+    ordered = λ o. p.ordered;
+    within = λ h. subst (λ n. n ≤ most) (sym (clients-long y.connections links p.goes)) (g.within h);
+    wires = λ h. g.wires h ∙ sym (clients-long y.connections links p.goes);
+    led = λ h all n. g.led h all n ∙ sym (leads_on n y.connections links p.goes);
+  }
+
+  -- one of the doors was rested at
+  pub goes-rests : (x : Going) (doors : List ListenerTold) (links : List ClientTold) (opened queue traffics : List ℕ)
+      → Goes IsMade most x (going doors links opened queue traffics) → Goes IsMade most x (going (after_rest doors) links opened queue traffics)
+  goes-rests x doors links opened queue traffics g = record {
+    doors = all-further x.doors doors (after_rest doors) g.doors (all-rested doors);
+    connections = g.connections;
+    traffics = g.traffics;
+    line = g.line;
+    ordered = g.ordered;
+    within = g.within;
+    wires = λ h. sums-rested wires_of (λ p. refl) doors ∙ g.wires h;
+    led = λ h all n. sums-rested (wires_to n) (λ p. refl) doors ∙ g.led h all n;
+  }
+
+  -- ---- one turn of the loop
+
+  module _ (x y : Going) (doors : List ListenerTold) (links now : List ClientTold) (among opened queue : List ℕ) (g : Goes IsMade most x y)
+      (a : Accepts IsMade most (doorway y.doors y.connections y.opened) (doorway doors links among))
+      (p : PollsAll (queued links among y.queue) (queued now opened queue)) where
+    came : Goes IsMade most x (going doors links among y.queue y.traffics)
+    came = goes-accepts x y doors links among g a
+
+    pub turned : Goes IsMade most x (going doors now opened queue y.traffics)
+    turned = goes-polls x (going doors links among y.queue y.traffics) now opened queue came p
+
+    -- whether each that is open waits for an answer
+    owing_is : list_all (owes_there now) opened ≡ all_owing now
+    owing_is = ap (list_all (owes_there now)) p.ordered.in_order ∙ opened_owing (owes_there now) now (λ i l is. ap (is_so owes) is)
+
+    -- a request is posted
+    pub looks-post : (number : ℕ) (rest : List ℕ) (posting : Posting) (later : Listing) → length x.traffics < most_postings → queue ≡ number ∷ rest
+        → Hands number posting (listing now y.traffics) later
+        → Looks IsMade most (nexts.Posting posting) x (going doors later.connections opened rest later.traffics)
+    looks-post number rest posting later few first h = record {
+      fewer = few;
+      mid = going doors now opened queue y.traffics;
+      goes = turned;
+      number = number;
+      first = first;
+      hands = h;
+      doors = refl;
+      opened = refl;
+    }
+
+    -- which asks
+    pub first-asks : (number : ℕ) (rest : List ℕ) → queue ≡ number ∷ rest → asks_there now number ≡ true
+    first-asks number rest e = first_asks now number rest (subst (λ q. IsQueue (lined now q)) e p.ordered.queued)
+
+    -- nothing comes any more
+    pub looks-end : queue ≡ [] → closed_off most doors now && list_all (owes_there now) opened ≡ true
+        → Looks IsMade most nexts.End x (going doors now opened queue y.traffics)
+    looks-end none done =
+        let both = and_parts (closed_off most doors now) (all_owing now) (ap (λ b. closed_off most doors now && b) (sym owing_is) ∙ done) in
+        inr (record { goes = turned; none = none; over = both.0; owing = both.1 })
+
+    -- nothing comes for now
+    module _ (none : queue ≡ []) (some : closed_off most doors now && list_all (owes_there now) opened ≡ false)
+        (nobody : length links ≡ length y.connections) (unended : length opened ≡ length among) where
+      more : closed_off most doors now && all_owing now ≡ false
+      more = ap (λ b. closed_off most doors now && b) (sym owing_is) ∙ some
+
+      paused : HavePaused x.connections now
+      paused = have_paused IsMade (map lead_of x.doors) x.connections links now came.connections p.goes p.paused (none_asks now queue none p.ordered.queued)
+
+      tried : (has_room most (length now) (count_by is_open now) ≡ false) ⊎ AreTried x.doors (after_rest doors)
+      tried = elim a.tried [
+        | inl full ↦ inl (
+            ap₂ (λ m n. has_room most m n) (clients-long links now p.goes) (sym (open_long 0 now) ∙ sym (ap length p.ordered.in_order) ∙ unended) ∙ full)
+        | inr all ↦ inr (tried-rested x.doors doors (all_tried-since x.doors y.doors doors g.doors all))
+      ]
+
+      -- there is a door
+      some_door : sum_by wires_of x.doors ≡ length x.connections → 0 < length doors
+      some_door h = by_doors doors refl
+        where
+          no_links : (ls : List ClientTold) → 0 ≡ length ls → all_owing ls ≡ true
+          no_links [] e = refl
+          no_links (l ∷ ls) e = absurd (omega (arith, e))
+
+          or_true : (b : Bool) → b || true ≡ true
+          or_true true = refl
+          or_true false = refl
+
+          by_doors : (ps : List ListenerTold) → doors ≡ ps → 0 < length doors
+          by_doors [] e = absurd (true≢false (sym both ∙ more))
+            where
+              wires : 0 ≡ length now
+              wires = ap (sum_by wires_of) (sym e) ∙ turned.wires h
+
+              both : closed_off most doors now && all_owing now ≡ true
+              both = ap₂ (λ a b. a && b) (ap (λ ps. nat_le most (length now) || list_all is_done ps) e ∙ or_true (nat_le most (length now))) (no_links now wires)
+          by_doors (q ∷ qs) e = subst (λ (ps : List ListenerTold). 0 < length ps) (sym e) (omega arith)
+
+      pub looks-yet : (later : List ListenerTold) → later ≡ after_rest doors → Looks IsMade most nexts.NotYet x (going later now opened queue y.traffics)
+      looks-yet later is = subst (λ ps. Looks IsMade most nexts.NotYet x (going ps now opened queue y.traffics)) (sym is) (
+        record {
+          goes = goes-rests x doors now opened queue y.traffics turned;
+          none = none;
+          paused = paused;
+          tried = tried;
+          some = ap (λ b. (nat_le most (length now) || b) && all_owing now) (done-rested doors) ∙ more;
+        },
+        record { mid = doors; rested = refl; goes = turned.doors },
+        λ h. one_more (rests_at x.doors) (rests_at doors) (rests_at (after_rest doors)) (2 ^ 64 - 1) (rests-on x.doors doors turned.doors)
+            (rests-rested doors (some_door h)),
+      )
+
+    -- ---- less is left
+
+    -- somebody came, or a connection ended
+    pub left-less : (length y.connections < length links) ⊎ (length opened < length among) → left most (going doors now opened queue y.traffics) < left most y
+    left-less h =
+        let grown = ap length a.takes.grown ∙ length-append y.connections a.takes.more in
+        let wider = a.takes.as_many in
+        let fewer = p.fewer in
+        let long = clients-long links now p.goes in
+        elim a.takes.fits [
+          | inl none ↦ elim h [ inl here ↦ omega (arith, grown, wider, fewer, long, none, here) | inr ended ↦ omega (arith, grown, wider, fewer, long, none, ended) ]
+          | inr fit ↦ elim h [ inl here ↦ omega (arith, grown, wider, fewer, long, fit, here) | inr ended ↦ omega (arith, grown, wider, fewer, long, fit, ended) ]
+        ]
+
+    -- nobody came and none ended
+    pub left-same : length links ≡ length y.connections → length opened ≡ length among → left most (going doors now opened queue y.traffics) ≡ left most y
+    left-same nobody unended =
+        let grown = ap length a.takes.grown ∙ length-append y.connections a.takes.more in
+        let wider = a.takes.as_many in
+        let long = clients-long links now p.goes in
+        omega (arith, grown, wider, long, nobody, unended)
+
+  -- ---- the order stays
+
+  -- after a request was posted
+  posts-ordered : (posting : Posting) (x now : Going) → Posts IsMade most posting x now → IsOrdered x.connections x.opened x.queue
+      → IsOrdered now.connections now.opened now.queue
+  posts-ordered posting x now p o =
+      let one = p.hands.one in
+      subst (λ ls. IsOrdered ls now.opened now.queue) (sym one.set)
+      (subst (λ ns. IsOrdered (slice_set p.mid.connections p.number one.later) ns now.queue) (sym p.opened)
+      (ordered-taken p.mid.connections p.mid.opened now.queue p.number one.link one.later one.there (ap asks_at one.asking) one.asked.stage
+      (subst (IsOrdered p.mid.connections p.mid.opened) p.first (p.goes.ordered o))))
+
+  pub looks-ordered : (which : Next) (x now : Going) → Looks IsMade most which x now → IsOrdered x.connections x.opened x.queue
+      → IsOrdered now.connections now.opened now.queue
+  looks-ordered (nexts.Posting posting) x now l o = posts-ordered posting x now l o
+  looks-ordered nexts.NotYet x now l o = l.0.goes.ordered o
+  looks-ordered nexts.End x now (inl many) o = subst (λ (y : Going). IsOrdered y.connections y.opened y.queue) (sym many.1) o
+  looks-ordered nexts.End x now (inr ended) o = ended.goes.ordered o

@@ -1,0 +1,7 @@
+use Rattle.std.proofs.Common.{take}
+use Rattle.run_door_front.specs.NextSteps.{Polls, lined}
+use Rattle.run_door_front.proofs.polling.poll_open.Given as goal
+
+abbrev pub invariant-loop-number : goal.invariant-loop-number
+invariant-loop-number g l =
+    Polls (take l.number-index l.opened) (lined l.fn.connections l.fn.queue.items) (lined l.connections l.queue.items)

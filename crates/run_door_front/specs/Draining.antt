@@ -1,0 +1,59 @@
+-- How what is due is written before the connections come back.
+use Rattle.std.specs.Prelude.{◌≡◌, ◌≢◌, ◌⊎◌, ◌≤◌, Bool, true, false, List, [], ◌∷◌}
+use Rattle.std.specs.List.{list_any}
+use Rattle.outside_doors.specs.Counts.{added}
+use Rattle.conn_future.specs.declared.stage.Stage.{Stage}
+use Rattle.conn_future.specs.declared.stage.Stage.TheVariants as Stages
+use Rattle.run_theorem.specs.Lines.{most_waits}
+use Rattle.run_door_front.specs.Keeping.{ListenerTold, ClientTold, stage_at}
+use Rattle.run_door_front.specs.NextSteps.{HasNotFallen, ClientGoesOn, ClientsGoOn}
+
+-- a text goes out at this stage
+abbrev pub writes_at : Stage → Bool
+writes_at Stages.Writes = true
+writes_at stage = false
+
+-- a text goes out on a connection
+abbrev pub is_writing : ClientTold → Bool
+is_writing link = writes_at (stage_at link)
+
+-- a text goes out on one of them
+abbrev pub any_writing : List ClientTold → Bool
+any_writing links = list_any is_writing links
+
+-- A connection went on with the text that goes out, if one does; where one still does, its wire could move nothing yet
+-- once more.
+pub record WritesOn (before now : ClientTold) : Type 0 where
+  pub goes : ClientGoesOn before now
+  pub wrote : is_writing now ≡ true → is_writing before ≡ true
+  pub waits : is_writing now ≡ true → added before.waits 1 ≤ now.waits
+
+-- each of them did
+abbrev pub AreWritten : List ClientTold → List ClientTold → Type 0
+AreWritten [] [] = Unit {0}
+AreWritten [] (m ∷ ms) = ⊥
+AreWritten (l ∷ ls) [] = ⊥
+AreWritten (l ∷ ls) (m ∷ ms) = WritesOn l m × AreWritten ls ms
+
+-- no text goes out on a connection any more, or its wire could move nothing as often as a run looks in a row
+abbrev pub has_drained : ClientTold → Type 0
+has_drained link = (stage_at link ≢ Stages.Writes) ⊎ (most_waits ≤ link.waits)
+
+-- the same of each
+abbrev pub HaveDrained : List ClientTold → Type 0
+HaveDrained [] = Unit {0}
+HaveDrained (l ∷ ls) = has_drained l × HaveDrained ls
+
+-- doors were rested at, and nothing else was done at them
+abbrev pub AreRested : List ListenerTold → List ListenerTold → Type 0
+AreRested [] [] = Unit {0}
+AreRested [] (q ∷ qs) = ⊥
+AreRested (p ∷ ps) [] = ⊥
+AreRested (p ∷ ps) (q ∷ qs) = (q ≡ record p { door = record p.door { rests = q.door.rests } })
+    × HasNotFallen p.door.rests q.door.rests × AreRested ps qs
+
+-- Connections went on, with rests at doors, until what was due was written, unless the front halted.
+pub record Drains (halted : Bool) (first later : List ListenerTold) (before now : List ClientTold) : Type 0 where
+  pub doors : AreRested first later
+  pub connections : ClientsGoOn before now
+  pub drained : halted ≡ false → HaveDrained now
