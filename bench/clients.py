@@ -411,8 +411,9 @@ def ends():
         row("the second of three", curl("-d", TWICE), ANSWER)
         row("the third of three", curl("-d", TWICE), ANSWER)
         row("then it ends", served.process.wait(15), 0)
-        row("and has said no more than where it listened", served.process.stderr.read(),
-            b"roqsulei: listening at socket://localhost:8000\n")
+        row("and has said no more than where it listened and why it ended", served.process.stderr.read(),
+            b"roqsulei: listening at socket://localhost:8000\n"
+            b"roqsulei: ended, since no further connection may come; connections: 3\n")
     with serving(example("twice")):
         second = subprocess.run([PROGRAM, "serve", example("twice")], capture_output=True, timeout=30)
         row("a port in use", (second.returncode, second.stderr),

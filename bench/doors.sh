@@ -5,17 +5,18 @@
 # shellcheck source=bench/common.sh
 . "$(dirname "$0")/common.sh"
 
-make_crate 'door_trials: outside_socket_doors outside_doors outside_sockets outside_traits anyhow' <<'EOF'
+make_crate 'door_trials: outside_socket_doors outside_doors outside_polling outside_traits anyhow' <<'EOF'
 //! Follows the lines of its input at doors over sockets, and says what came of each: `open LOCATION`; `accept`, `rest`
 //! and `shut` of the door that was opened last; `read`, `write TEXT`, `fill COUNT` and `back` of the wire that came
-//! last; `doors`, what each door told that was shut: connections, waits and failures; `wires`, what was told of each
-//! wire that went back: `l` where a read failed, `c` where a write did, `e` where a read told the end; and `told`.
+//! last, where the first three rest as long as it can move nothing; `doors`, what each door told that was shut:
+//! connections, waits and failures; `wires`, what was told of each wire that went back: `l` where a read failed, `c`
+//! where a write did, `e` where a read told the end; and `told`, where the waits are those of doors.
 #![tactic(auto)]
 
 use outside_doors::{Door, Doors, Accept};
-use outside_socket_doors::{Patience, PatientStream, SocketDoor, SocketDoors};
-use outside_sockets::SocketWire;
-use outside_traits::Wire;
+use outside_polling::{PollWire, Ready};
+use outside_socket_doors::{DoorWire, Patience, SocketDoor, SocketDoors};
+use outside_traits::Failed;
 use std::alloc::{AllocError, Global};
 use std::io::Eprint;
 use std::net::Net;
@@ -27,14 +28,14 @@ struct House<H: Net + Clock + Eprint + Copy + Drop> {
     alloc: Global,
     doors: SocketDoors<H>,
     open: Vec<SocketDoor<H>>,
-    wires: Vec<SocketWire<PatientStream<H::Stream, H>>>,
+    wires: Vec<DoorWire<H>>,
 }
 
 fn main(rt: HostRuntime) -> anyhow::Result<()> {
     let alloc = rt.alloc();
     let mut house = House {
         alloc,
-        doors: SocketDoors::new(alloc, &rt, patience()),
+        doors: SocketDoors::new(alloc, &rt, patience(), None),
         open: Vec::new(alloc),
         wires: Vec::new(alloc),
     };
@@ -102,9 +103,7 @@ impl<H: Net + Clock + Eprint + Copy + Drop> House<H> {
     }
 
     fn rest(&mut self) -> Result<String, AllocError> {
-        if let Some(door) = self.open.last_mut() {
-            door.rest();
-        }
+        self.pause();
         self.say("rested")
     }
 
@@ -117,39 +116,57 @@ impl<H: Net + Clock + Eprint + Copy + Drop> House<H> {
 
     fn read(&mut self) -> Result<String, AllocError> {
         let mut bytes = [0_u8; 64];
-        let Some(wire) = self.wires.last_mut() else {
-            return self.say("no wire");
-        };
-        match wire.read(&mut bytes) {
-            Ok(count) => {
-                let text = std::str::from_utf8(&bytes[..count]).unwrap_or("?");
-                format!(in self.alloc; "read {text}")
+        for _ in 0..u64::MAX {
+            let Some(wire) = self.wires.last_mut() else {
+                return self.say("no wire");
+            };
+            match wire.try_read(&mut bytes) {
+                Ok(Ready::Done(count)) => {
+                    let text = std::str::from_utf8(&bytes[..count]).unwrap_or("?");
+                    return format!(in self.alloc; "read {text}");
+                }
+                Ok(Ready::NotYet) => self.pause(),
+                Err(Failed) => return self.say("failed"),
             }
-            Err(_) => self.say("failed"),
         }
+        self.say("nothing")
     }
 
     fn write(&mut self, bytes: &[u8]) -> Result<String, AllocError> {
-        let Some(wire) = self.wires.last_mut() else {
-            return self.say("no wire");
-        };
-        match wire.write(bytes) {
+        match self.written(bytes) {
             Ok(count) => format!(in self.alloc; "wrote {count}"),
-            Err(_) => self.say("failed"),
+            Err(Failed) => self.say("failed"),
         }
     }
 
     /// Writes so many pieces.
     fn fill(&mut self, count: u32) -> Result<String, AllocError> {
-        let Some(wire) = self.wires.last_mut() else {
-            return self.say("no wire");
-        };
         for _ in 0..count {
-            if wire.write(&[b'x'; 4_096]).is_err() {
+            if self.written(&[b'x'; 4_096]).is_err() {
                 return self.say("failed");
             }
         }
         self.say("filled")
+    }
+
+    /// How many of the bytes the last wire takes, once it takes some.
+    fn written(&mut self, bytes: &[u8]) -> Result<usize, Failed> {
+        for _ in 0..u64::MAX {
+            let Some(wire) = self.wires.last_mut() else {
+                return Err(Failed);
+            };
+            match wire.try_write(bytes)? {
+                Ready::Done(count) => return Ok(count),
+                Ready::NotYet => self.pause(),
+            }
+        }
+        Err(Failed)
+    }
+
+    fn pause(&mut self) {
+        if let Some(door) = self.open.last_mut() {
+            door.rest();
+        }
     }
 
     fn back(&mut self) -> Result<String, AllocError> {
@@ -186,7 +203,11 @@ impl<H: Net + Clock + Eprint + Copy + Drop> House<H> {
         let (opened, back, ended) = (counts.opened(), counts.doors_back(), counts.doors_ended());
         let (given, wires) = (counts.wires_given(), counts.wires_back());
         let (lost, cut) = (counts.wires_lost(), counts.wires_cut());
-        let (waits, faults) = (counts.waits(), self.doors.faults());
+        let mut waits = 0_u64;
+        for door in self.doors.returned_doors() {
+            waits = waits.saturating_add(door.waits());
+        }
+        let faults = self.doors.faults();
         let doors = format!(in self.alloc; "doors {opened} {back} {ended} wires {given} {wires} {lost} {cut}")?;
         format!(in self.alloc; "{doors} waits {waits} faults {faults}")
     }

@@ -115,6 +115,8 @@ curl -s -d '{"jsonrpc":"2.0","method":"price","params":{"name":"bolt","n":5},"id
 status=0
 wait "$serving" || status=$?
 mv "$work/answer" "$work/output"
+told="$told
+roqsulei: ended, since no further connection may come; connections: 1"
 row 'one port of two is served, and the other is told' 7 '{"id":1,"jsonrpc":"2.0","result":"5 of bolt cost 15"}' "$told"
 for lines in "$top"/examples/*.jsonl; do
     example=${lines%.jsonl}

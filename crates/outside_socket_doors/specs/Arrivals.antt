@@ -1,12 +1,11 @@
 -- What an accept says of who has come.
 use Rattle.std.specs.Prelude.{◌≡◌, ℕ, ℤ, Bool, true, false, ◌||◌, ◌==◌, if◌then◌else◌, unsigned_abs}
-use Rattle.std.specs.Prelude.{Option, Some, None, Result, Ok, Err}
+use Rattle.std.specs.Prelude.{Option, Some, None, Result, Ok, Err, IsErr}
 use Rattle.std.specs.IoError.{error_kind, raw_os_error}
 use Rattle.std.specs.declared.io.Error.{Error}
 use Rattle.std.specs.declared.io.ErrorKind.{ErrorKind}
 use Rattle.std.specs.declared.io.ErrorKind.TheVariants.{WouldBlock, Interrupted, ConnectionAborted, ConnectionReset}
 use Rattle.std.specs.declared.io.ErrorKind.TheVariants.{NetworkDown, NetworkUnreachable, HostUnreachable, TimedOut}
-use Rattle.outside_doors.specs.Counts.{DoorTold, untried}
 use Rattle.outside_doors.specs.declared.traits.Accept.{Accept}
 use Rattle.outside_doors.specs.declared.traits.Accept.TheVariants.{Came, NotYet, Closed}
 use Rattle.outside_socket_doors.specs.declared.obstacle.Obstacle.{Obstacle}
@@ -48,6 +47,16 @@ abbrev pub obstacle_of : Error → Obstacle
 obstacle_of error = if is_absence (error_kind error) || is_lost (number_of error) then Nobody
     else if is_want (number_of error) then Want else Fault
 
+-- whether an error of this kind says that a call would have had to wait
+abbrev pub is_wait : ErrorKind → Bool
+is_wait WouldBlock = true
+is_wait _ = false
+
+-- what is known to have been reported to a call that came to an error: all where it would have had to wait, so that the
+-- next report is awaited; else nothing
+abbrev pub mark_of : Error → ℕ → Option ℕ
+mark_of error rings = if is_wait (error_kind error) then Some rings else None
+
 -- a try at a door gave a connection
 abbrev pub GivesWire : {W E : Type 0} → Result (Accept W) E → Type 0
 GivesWire (Ok (Came wire)) = Unit {0}
@@ -55,13 +64,8 @@ GivesWire (Ok NotYet) = ⊥
 GivesWire (Ok Closed) = ⊥
 GivesWire (Err cause) = ⊥
 
--- what a contract sees of a door over a listener
-pub record ListenerTold : Type 0 where
-  -- what it counts
-  pub counts : DoorTold
-  -- whether nobody was there at the last look, of a try or of a rest: then a rest ends when somebody comes
-  pub empty : Bool
-
--- before a door of this place was tried
-abbrev pub unvisited : ℕ → ListenerTold
-unvisited place = record { counts = untried place; empty = false }
+-- what a try at a door gives where this stood in the way of an accept: only a fault is a failure
+abbrev pub Meets : {W E : Type 0} → Obstacle → Result (Accept W) E → Type 0
+Meets Nobody result = result ≡ Ok NotYet
+Meets Want result = result ≡ Ok NotYet
+Meets Fault result = IsErr result

@@ -1,33 +1,40 @@
 -- How long a connection is waited for.
-use Rattle.std.specs.Prelude.{ℕ, ◌-◌, ◌==◌, if◌then◌else◌}
+use Rattle.std.specs.Prelude.{ℕ, ◌-◌, ◌/◌, min, ◌==◌, Bool, true, false, nat_le, if◌then◌else◌}
 use Rattle.std.specs.Duration.{as_nanos}
-use Rattle.std.specs.Time.{instant_nanos}
-use Rattle.std.specs.declared.time.Instant.{Instant}
 use Rattle.outside_socket_doors.specs.declared.patience.Patience.{Patience}
 use Rattle.outside_socket_doors.specs.declared.patience.Turn.{Turn}
 use Rattle.outside_socket_doors.specs.declared.patience.Turn.TheVariants.{Idle, Request, Answer}
 
--- how many nanoseconds a read may take at a moment: of a request that has begun what is left of its time, and else the
--- time in which one may begin
-abbrev pub reading_time : Patience → Turn → Instant → ℕ
-reading_time patience Idle now = as_nanos patience.idle
-reading_time patience (Request start) now = as_nanos patience.request - (instant_nanos now - instant_nanos start)
-reading_time patience (Answer start) now = as_nanos patience.idle
+-- whether a turn has lasted so long at a nanosecond that it is waited for no more
+abbrev pub is_over : Patience → Turn → ℕ → Bool
+is_over patience (Idle start) now = nat_le (as_nanos patience.idle) (now - start)
+is_over patience (Request start) now = nat_le (as_nanos patience.request) (now - start)
+is_over patience (Answer start) now = nat_le (as_nanos patience.answer) (now - start)
 
--- how many nanoseconds a write may take: what is left of the time of the answer, which begins with its first write
-abbrev pub writing_time : Patience → Turn → Instant → ℕ
-writing_time patience Idle now = as_nanos patience.answer
-writing_time patience (Request start) now = as_nanos patience.answer
-writing_time patience (Answer start) now = as_nanos patience.answer - (instant_nanos now - instant_nanos start)
+-- whether nothing of a next request has come
+abbrev pub is_idle : Turn → Bool
+is_idle (Idle start) = true
+is_idle (Request start) = false
+is_idle (Answer start) = false
 
--- whose turn it is behind a read that gave so many bytes: a request begins with the first of them
-abbrev pub turn_read : Turn → ℕ → Instant → Turn
-turn_read (Request start) count now = Request start
-turn_read Idle count now = if count == 0 then Idle else Request now
-turn_read (Answer start) count now = if count == 0 then Answer start else Request now
+-- whose turn it is in a read that begins at a nanosecond: after an answer the next request is waited for
+abbrev pub turn_at_read : Turn → ℕ → Turn
+turn_at_read (Idle start) now = Idle start
+turn_at_read (Request start) now = Request start
+turn_at_read (Answer start) now = Idle now
 
--- and before a write at a moment: an answer begins with the first one
-abbrev pub turn_write : Turn → Instant → Turn
-turn_write (Answer start) now = Answer start
-turn_write Idle now = Answer now
-turn_write (Request start) now = Answer now
+-- and after a read that gave so many bytes: a request begins with the first of them
+abbrev pub turn_by_read : Turn → ℕ → ℕ → Turn
+turn_by_read (Request start) count now = Request start
+turn_by_read (Idle start) count now = if count == 0 then Idle start else Request now
+turn_by_read (Answer start) count now = if count == 0 then Answer start else Request now
+
+-- and in a write that begins at a nanosecond: an answer begins with the first one
+abbrev pub turn_at_write : Turn → ℕ → Turn
+turn_at_write (Answer start) now = Answer start
+turn_at_write (Idle start) now = Answer now
+turn_at_write (Request start) now = Answer now
+
+-- how many milliseconds a rest lasts at most
+abbrev pub rest_milliseconds : Patience → ℕ
+rest_milliseconds patience = min (as_nanos patience.rest / 1_000_000) 1_000

@@ -1,11 +1,13 @@
 //! How long a connection is waited for.
-ghost use Rattle.std.specs.Prelude.{◌≡◌, IfOk};
+ghost use Rattle.std.specs.Prelude.{◌≡◌, ◌-◌, nat_le};
 ghost use Rattle.std.specs.Duration.{as_nanos};
-ghost use Rattle.outside_socket_doors.specs.Patience.{reading_time, turn_read, turn_write, writing_time};
+ghost use Rattle.outside_socket_doors.specs.Patience.{is_idle, is_over, rest_milliseconds};
+ghost use Rattle.outside_socket_doors.specs.Patience.{turn_at_read, turn_at_write, turn_by_read};
 
-use std::io;
-use std::io::ErrorKind;
-use std::time::{Duration, Instant};
+use std::time::Duration;
+
+/// The most milliseconds of a rest.
+const LONGEST_REST: u128 = 1_000;
 
 /// How long those who come in at a door are waited for.
 #[derive(Clone, Copy)]
@@ -16,110 +18,83 @@ pub struct Patience {
     pub request: Duration,
     /// How long an answer may take to be taken, from its first write on.
     pub answer: Duration,
-    /// How long a rest is where nobody comes. It is 1,000 ms at most, whatever stands here.
+    /// How long a rest is where nothing comes. It is 1,000 ms at most, whatever stands here.
     pub rest: Duration,
 }
 
-/// What a connection is at: nothing of a next request has come, one has begun, or its answer has.
+/// What a connection is at, and since which nanosecond: nothing of a next request has come, one has begun, or its
+/// answer has.
 #[derive(Clone, Copy)]
 pub(crate) enum Turn {
-    Idle,
-    Request(Instant),
-    Answer(Instant),
+    Idle(u64),
+    Request(u64),
+    Answer(u64),
 }
 
 impl Turn {
-    /// How long a read may take that begins now.
-    fn reading_time(self, patience: &Patience, now: Instant) -> Duration
-        ensures { as_nanos result ≡ reading_time patience.now self now }
+    /// What it is at in a read that begins now.
+    pub(crate) fn at_read(self, now: u64) -> Turn
+        ensures { result ≡ turn_at_read self now }
     {
         match self {
-            Turn::Request(start) => patience.request.saturating_sub(now.duration_since(start)),
-            Turn::Idle | Turn::Answer(_) => patience.idle,
+            Turn::Idle(_) | Turn::Request(_) => self,
+            Turn::Answer(_) => Turn::Idle(now),
         }
     }
 
-    /// How long a write may take that begins now.
-    fn writing_time(self, patience: &Patience, now: Instant) -> Duration
-        ensures { as_nanos result ≡ writing_time patience.now self now }
-    {
-        match self {
-            Turn::Answer(start) => patience.answer.saturating_sub(now.duration_since(start)),
-            Turn::Idle | Turn::Request(_) => patience.answer,
-        }
-    }
-
-    /// What it is at behind a read that has just given so many bytes.
-    fn after_read(self, count: usize, now: Instant) -> Turn
-        ensures { result ≡ turn_read self count now }
+    /// What it is at after a read that has just given so many bytes.
+    pub(crate) fn by_read(self, count: usize, now: u64) -> Turn
+        ensures { result ≡ turn_by_read self count now }
     {
         match self {
             Turn::Request(_) => self,
-            Turn::Idle | Turn::Answer(_) => { if count == 0 { self } else { Turn::Request(now) } }
+            Turn::Idle(_) | Turn::Answer(_) => {
+                if count == 0 { self } else { Turn::Request(now) }
+            }
         }
     }
 
     /// What it is at in a write that begins now.
-    fn at_write(self, now: Instant) -> Turn
-        ensures { result ≡ turn_write self now }
+    pub(crate) fn at_write(self, now: u64) -> Turn
+        ensures { result ≡ turn_at_write self now }
     {
         match self {
             Turn::Answer(_) => self,
-            Turn::Idle | Turn::Request(_) => Turn::Answer(now),
+            Turn::Idle(_) | Turn::Request(_) => Turn::Answer(now),
+        }
+    }
+
+    /// Whether nothing of a next request has come.
+    pub(crate) fn is_idle(self) -> bool
+        ensures { result ≡ is_idle self }
+    {
+        matches!(self, Turn::Idle(_))
+    }
+
+    /// Whether its time is over.
+    pub(crate) fn is_over(self, patience: &Patience, now: u64) -> bool
+        ensures { result ≡ is_over patience.now self now }
+    {
+        match self {
+            Turn::Idle(start) => has_passed(patience.idle, start, now),
+            Turn::Request(start) => has_passed(patience.request, start, now),
+            Turn::Answer(start) => has_passed(patience.answer, start, now),
         }
     }
 }
 
-/// How long a connection is waited for, and what it is at.
-#[derive(Drop)]
-pub(crate) struct Waiting {
-    patience: Patience,
-    turn: Turn,
-}
-
-impl Waiting {
-    /// Of a connection on which nothing has come yet.
-    pub(crate) fn new(patience: Patience) -> Waiting
-        ensures { result ≡ record { patience = patience; turn = Turn.Idle } }
+impl Patience {
+    /// The milliseconds of a rest.
+    pub(crate) fn rest_milliseconds(&self) -> u64
+        ensures { result ≡ rest_milliseconds self.now }
     {
-        Waiting {
-            patience,
-            turn: Turn::Idle,
-        }
-    }
-
-    /// How long a read may take that begins now; it fails where no time is left.
-    pub(crate) fn before_read(&self, now: Instant) -> io::Result<Duration>
-        ensures { IfOk result (λ time. as_nanos time ≡ reading_time self.now.patience self.now.turn now) }
-    {
-        let time = self.turn.reading_time(&self.patience, now);
-        if time.is_zero() {
-            return Err(timed_out());
-        }
-        Ok(time)
-    }
-
-    /// Notes a read that has just given so many bytes.
-    pub(crate) fn note_read(&mut self, count: usize, now: Instant)
-        ensures { self.new ≡ record self.old { turn = turn_read self.old.turn count now } }
-    {
-        self.turn = self.turn.after_read(count, now);
-    }
-
-    /// How long a write may take that begins now; it fails where no time is left. The write is noted.
-    pub(crate) fn before_write(&mut self, now: Instant) -> io::Result<Duration>
-        ensures time { IfOk result (λ time. as_nanos time ≡ writing_time self.old.patience self.old.turn now) }
-        ensures turn { IfOk result (λ _. self.new ≡ record self.old { turn = turn_write self.old.turn now }) }
-    {
-        let time = self.turn.writing_time(&self.patience, now);
-        if time.is_zero() {
-            return Err(timed_out());
-        }
-        self.turn = self.turn.at_write(now);
-        Ok(time)
+        self.rest.as_millis().min(LONGEST_REST) as u64
     }
 }
 
-fn timed_out() -> io::Error {
-    io::Error::from(ErrorKind::TimedOut)
+/// Whether so much time has passed from one nanosecond to another.
+fn has_passed(most: Duration, start: u64, now: u64) -> bool
+    ensures { result ≡ nat_le (as_nanos most) (now - start) }
+{
+    most.as_nanos() <= u128::from(now.saturating_sub(start))
 }

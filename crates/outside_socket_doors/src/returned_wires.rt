@@ -1,13 +1,15 @@
 //! What is kept of the wires that came back.
 ghost use Rattle.std.specs.Prelude.{◌≡◌, [], ◌∷◌, Some, IfSome};
-ghost use Rattle.outside_traits.specs.Told.{Lists, shut};
-ghost use Rattle.outside_sockets.specs.Sockets.{told_by_socket};
+ghost use Rattle.outside_traits.specs.Told.{Lists};
+ghost use Rattle.outside_polling.specs.Polls.{shut_so};
+ghost use Rattle.outside_socket_doors.specs.Lines.{told_by_line};
 
-use outside_sockets::SocketWire;
+use crate::door_wire::DoorWire;
 use std::alloc::Global;
-use std::io::{Read, Write};
+use std::io::Eprint;
 use std::marker::Model;
-use std::net::OpenStream;
+use std::net::Net;
+use std::rt::Clock;
 
 /// What is kept of a wire that came back: how its calls had gone, and none of its bytes.
 #[derive(Drop)]
@@ -15,65 +17,72 @@ pub struct ReturnedWire {
     lost: bool,
     cut: bool,
     ended: bool,
-    door: Option<u64>,
+    waits: u64,
+    door: u64,
 }
 
 impl Model for ReturnedWire {
-    ghost use Rattle.std.specs.Prelude.{None, true};
-    ghost use Rattle.outside_traits.specs.Told.{WireTold};
+    ghost use Rattle.std.specs.Prelude.{true};
+    ghost use Rattle.outside_polling.specs.Polls.{PollTold};
+    ghost use Rattle.outside_socket_doors.specs.Lines.{told_by_line};
 
-    ghost Value = { WireTold };
+    ghost Value = { PollTold };
 
-    ghost view = { λ w. record {
-      read = None;
-      unread = None;
-      written = None;
-      calls = None;
+    ghost view = { λ w. told_by_line (record {
       read_failed = w.lost;
       write_failed = w.cut;
       ended = w.ended;
       closed = true;
+      waits = w.waits;
       door = w.door;
-    } };
+    }) };
 }
 
 impl ReturnedWire {
     /// What is kept of a wire.
-    fn of<S: Read + Write + OpenStream + Drop>(wire: &SocketWire<S>) -> ReturnedWire
-        ensures { result ≡ shut (told_by_socket wire.now) }
+    fn of<H: Net + Clock + Eprint + Copy + Drop>(wire: &DoorWire<H>) -> ReturnedWire
+        ensures { result ≡ shut_so (told_by_line wire.now) }
     {
         ReturnedWire {
             lost: wire.is_lost(),
             cut: wire.is_cut(),
             ended: wire.has_ended(),
+            waits: wire.waits(),
             door: wire.door(),
         }
     }
 
     /// At which door it came: how many doors had been opened before that.
-    pub fn door(&self) -> Option<u64>
-        ensures { result ≡ self.now.door }
+    pub fn door(&self) -> u64
+        ensures { Some result ≡ self.now.wire.door }
     {
         self.door
     }
 
+    /// How often it had answered that it can move nothing yet.
+    pub fn waits(&self) -> u64
+        ensures { result ≡ self.now.waits }
+    {
+        self.waits
+    }
+
     /// Whether a read had failed.
     pub fn is_lost(&self) -> bool
-        ensures { result ≡ self.now.read_failed }
+        ensures { result ≡ self.now.wire.read_failed }
     {
         self.lost
     }
 
     /// Whether a write had failed before the wire was closed.
     pub fn is_cut(&self) -> bool
-        ensures { result ≡ self.now.write_failed }
+        ensures { result ≡ self.now.wire.write_failed }
     {
         self.cut
     }
 
     /// Whether a read had told the end of what comes in.
     pub fn has_ended(&self) -> bool
-        ensures { result ≡ self.now.ended }
+        ensures { result ≡ self.now.wire.ended }
     {
         self.ended
     }
@@ -88,9 +97,9 @@ pub(crate) struct ReturnedWires {
 
 impl Model for ReturnedWires {
     ghost use Rattle.std.specs.Prelude.{Option, None, Some, List, if◌then◌else◌};
-    ghost use Rattle.outside_traits.specs.Told.{WireTold};
+    ghost use Rattle.outside_polling.specs.Polls.{PollTold};
 
-    ghost Value = { Option (List WireTold) };
+    ghost Value = { Option (List PollTold) };
 
     ghost view = { λ w. if w.is_whole then Some w.kept.items else None };
 }
@@ -107,8 +116,8 @@ impl ReturnedWires {
     }
 
     /// Keeps how the calls of one more wire had gone.
-    pub(crate) fn keep<S: Read + Write + OpenStream + Drop>(&mut self, wire: &SocketWire<S>)
-        ensures { Lists self.old self.new (shut (told_by_socket wire.now) ∷ []) }
+    pub(crate) fn keep<H: Net + Clock + Eprint + Copy + Drop>(&mut self, wire: &DoorWire<H>)
+        ensures { Lists self.old self.new (shut_so (told_by_line wire.now) ∷ []) }
     {
         if self.kept.push(ReturnedWire::of(wire)).is_err() {
             self.is_whole = false;

@@ -20,3 +20,8 @@ pub(crate) fn say_failed<H: Eprint>(host: &H, location: Option<&String>, error: 
         None => eprintln!(host; "roqsulei: a listener failed: {error}"),
     };
 }
+
+/// Says that the input has ended which holds the doors open.
+pub(crate) fn say_closing<H: Eprint>(host: &H) {
+    let _ = eprintln!(host; "roqsulei: the standard input has ended: the doors close");
+}

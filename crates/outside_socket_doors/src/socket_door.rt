@@ -1,139 +1,133 @@
-ghost use Rattle.std.specs.Prelude.{◌≡◌, ◌/◌, false, true, min, Ok, Some, IsTrue, IsErr, IsOk, IfErr};
-ghost use Rattle.std.specs.Duration.{as_nanos};
+ghost use Rattle.std.specs.Prelude.{◌≡◌, IsOk, IfErr, true};
 ghost use Rattle.outside_traits.specs.Causes.{HasCause};
-ghost use Rattle.outside_doors.specs.Counts.{rested};
-ghost use Rattle.outside_sockets.specs.Sockets.{new_socket, told_by_socket};
+ghost use Rattle.outside_doors.specs.Counts.{untried};
 ghost use Rattle.outside_doors.specs.Attempts.{ComesAt, IfCame, closed_after, waits_after, wires_after};
-ghost use Rattle.outside_socket_doors.specs.declared.obstacle.Obstacle.TheVariants as Obstacles;
-ghost use Rattle.outside_socket_doors.specs.Arrivals.{GivesWire, obstacle_of, unvisited};
+ghost use Rattle.outside_socket_doors.specs.Arrivals.{GivesWire, Meets};
+ghost use Rattle.outside_socket_doors.specs.Lines.{told_by_line};
 
+use crate::door_wire::DoorWire;
+use crate::line::Line;
+use crate::listening::Listening;
 use crate::obstacle::{Obstacle, obstacle_of};
-use crate::patience::Patience;
-use crate::patient_stream::PatientStream;
+use crate::poller::Poller;
 use crate::saying::say_failed;
-use libc::net as c;
-use libc::types::pollfd;
 use outside_doors::{Accept, Door, DoorCounts};
-use outside_sockets::SocketWire;
 use outside_traits::Failed;
-use std::io::Eprint;
+use std::io;
+use std::io::{Eprint, ErrorKind};
 use std::marker::Model;
-use std::net::{Net, OpenListener, OpenStream, SocketAddr};
-use std::os::fd::{AsRawFd, RawFd};
+use std::net::{Net, SocketAddr};
 use std::rt::Clock;
-use std::time::Duration;
-use std::{io, thread};
+use std::sync::Arc;
 
-/// The most milliseconds of a rest.
-const LONGEST_REST: u128 = 1_000;
-
-/// A door over a listener of the system, at which somebody may come for as long as it is open: it never answers that
-/// nobody comes any more. It says on standard error where the listener fails, with its location where there was memory
-/// to keep that.
+/// A door over a listener of the system, at which somebody may come until the doors close. It says on standard error
+/// where the listener fails, with its location where there was memory to keep that. Where it fails or closes it listens
+/// no more.
 ///
-/// A rest ends when somebody comes only where nobody was there at the last look, of a try or of a rest. Else who is
-/// there can't be let in now, or is not to be, and a rest that ended at once would be none.
+/// A rest is one at all doors and wires: it ends when something comes for which one of them waits.
 #[derive(Drop)]
 pub struct SocketDoor<H: Net + Clock + Eprint + Copy + Drop> {
     host: H,
-    listener: H::Listener,
+    poller: Arc<Poller<H>>,
+    listening: Option<Listening<H>>,
     location: Option<String>,
-    patience: Patience,
     counts: DoorCounts,
-    empty: bool,
 }
 
 impl<H: Net + Clock + Eprint + Copy + Drop> Model for SocketDoor<H> {
-    ghost use Rattle.std.specs.Prelude.{◌≡◌, false};
-    ghost use Rattle.outside_socket_doors.specs.Arrivals.{ListenerTold};
+    ghost use Rattle.outside_doors.specs.Counts.{DoorTold};
 
-    ghost Value = { ListenerTold };
+    ghost Value = { DoorTold };
 
-    ghost view = { λ d. record { counts = d.counts; empty = d.empty } };
-
-    ghost invariant = { λ d. d.counts.closed ≡ false };
+    ghost view = { λ d. d.counts };
 }
 
 impl<H: Net + Clock + Eprint + Copy + Drop> SocketDoor<H> {
-    /// A door of this place over a listener whose accept does not wait.
+    /// A door of this place over a listener.
     pub(crate) fn new(
         host: H,
-        listener: H::Listener,
+        poller: Arc<Poller<H>>,
+        listening: Listening<H>,
         location: Option<String>,
-        patience: Patience,
         place: u64,
     ) -> SocketDoor<H>
-        ensures { result ≡ unvisited place }
+        ensures { result ≡ untried place }
     {
         SocketDoor {
             host,
-            listener,
+            poller,
+            listening: Some(listening),
             location,
-            patience,
             counts: DoorCounts::new(place),
-            empty: false,
         }
     }
 
     /// What the door counts.
     pub fn counts(&self) -> &DoorCounts
-        ensures counts { result.now ≡ self.now.counts }
-        ensures closed { result.now.closed ≡ false }
+        ensures { result.now ≡ self.now }
     {
         &self.counts
     }
 
-    /// What a try answers where an accept came to this. It counts it.
-    fn answer(
-        &mut self,
-        accepted: io::Result<(H::Stream, SocketAddr)>,
-    ) -> Result<Accept<SocketWire<PatientStream<H::Stream, H>>>, Failed>
-        ensures came { IsOk accepted → GivesWire result }
-        ensures nobody { IfErr accepted
-            (λ error. obstacle_of error ≡ Obstacles.Nobody → (result ≡ Ok Accept.NotYet) × (self.new.empty ≡ true)) }
-        ensures want { IfErr accepted
-            (λ error. obstacle_of error ≡ Obstacles.Want → (result ≡ Ok Accept.NotYet) × (self.new.empty ≡ false)) }
-        ensures failed { IfErr accepted
-            (λ error. obstacle_of error ≡ Obstacles.Fault → IsErr result × (self.new.empty ≡ false)) }
-        ensures occupied { IsOk accepted → self.new.empty ≡ false }
-        ensures comes { IfCame result (λ wire. ComesAt self.old.counts.place (told_by_socket wire)) }
-        ensures place { self.new.counts.place ≡ self.old.counts.place }
-        ensures wires { self.new.counts.wires ≡ wires_after result self.old.counts.wires }
-        ensures waits { self.new.counts.waits ≡ waits_after result self.old.counts.waits }
-        ensures rests { self.new.counts.rests ≡ self.old.counts.rests }
-        ensures closed { self.new.counts.closed ≡ closed_after result self.old.counts.closed }
-        ensures cause { HasCause self.old.counts.faults self.new.counts.faults result }
-    {
-        self.empty = false;
-        match accepted {
-            Ok((stream, _)) => {
-                self.counts.add_wire();
-                Ok(Accept::Came(self.wire(stream)))
-            }
-            Err(error) => self.answer_without(obstacle_of(&error)),
+    /// Where it listens.
+    pub fn address(&self) -> io::Result<SocketAddr> {
+        match &self.listening {
+            Some(listening) => listening.address(),
+            None => Err(io::Error::from(ErrorKind::NotConnected)),
         }
     }
 
-    /// What a try answers where this stood in the way of the accept. It counts it.
-    fn answer_without(
-        &mut self,
-        obstacle: Obstacle,
-    ) -> Result<Accept<SocketWire<PatientStream<H::Stream, H>>>, Failed>
-        ensures nobody { obstacle ≡ Obstacles.Nobody → (result ≡ Ok Accept.NotYet) × (self.new.empty ≡ true) }
-        ensures want { obstacle ≡ Obstacles.Want → (result ≡ Ok Accept.NotYet) × (self.new.empty ≡ self.old.empty) }
-        ensures failed { obstacle ≡ Obstacles.Fault → IsErr result × (self.new.empty ≡ self.old.empty) }
-        ensures comes { IfCame result (λ wire. ComesAt self.old.counts.place (told_by_socket wire)) }
-        ensures place { self.new.counts.place ≡ self.old.counts.place }
-        ensures wires { self.new.counts.wires ≡ wires_after result self.old.counts.wires }
-        ensures waits { self.new.counts.waits ≡ waits_after result self.old.counts.waits }
-        ensures rests { self.new.counts.rests ≡ self.old.counts.rests }
-        ensures closed { self.new.counts.closed ≡ closed_after result self.old.counts.closed }
-        ensures cause { HasCause self.old.counts.faults self.new.counts.faults result }
+    /// The connection that has come, or why none has.
+    fn arrived(&mut self) -> Result<Line<H>, Obstacle>
+        ensures { self.new ≡ self.old }
+    {
+        let Some(listening) = &mut self.listening else {
+            return Err(Obstacle::Fault);
+        };
+        let accepted = listening.accept();
+        if let Err(error) = &accepted {
+            if let Obstacle::Fault = obstacle_of(error) {
+                say_failed(&self.host, self.location.as_ref(), error);
+            }
+        }
+        listening.line(accepted)
+    }
+
+    /// What a try answers where this has come, or stood in the way. It counts it.
+    fn answer(&mut self, arrived: Result<Line<H>, Obstacle>) -> Result<Accept<DoorWire<H>>, Failed>
+        ensures came { IsOk arrived → GivesWire result }
+        ensures obstacle { IfErr arrived (λ obstacle. Meets obstacle result) }
+        ensures comes { IfCame result (λ wire. ComesAt self.old.place (told_by_line wire)) }
+        ensures place { self.new.place ≡ self.old.place }
+        ensures wires { self.new.wires ≡ wires_after result self.old.wires }
+        ensures waits { self.new.waits ≡ waits_after result self.old.waits }
+        ensures rests { self.new.rests ≡ self.old.rests }
+        ensures closed { self.new.closed ≡ closed_after result self.old.closed }
+        ensures cause { HasCause self.old.faults self.new.faults result }
+    {
+        match arrived {
+            Ok(line) => {
+                self.counts.add_wire();
+                Ok(Accept::Came(DoorWire::new(line, self.counts.place())))
+            }
+            Err(obstacle) => self.answer_without(obstacle),
+        }
+    }
+
+    /// What a try answers where this stood in the way. It counts it, and listens no more after a fault.
+    fn answer_without(&mut self, obstacle: Obstacle) -> Result<Accept<DoorWire<H>>, Failed>
+        ensures meets { Meets obstacle result }
+        ensures comes { IfCame result (λ wire. ComesAt self.old.place (told_by_line wire)) }
+        ensures place { self.new.place ≡ self.old.place }
+        ensures wires { self.new.wires ≡ wires_after result self.old.wires }
+        ensures waits { self.new.waits ≡ waits_after result self.old.waits }
+        ensures rests { self.new.rests ≡ self.old.rests }
+        ensures closed { self.new.closed ≡ closed_after result self.old.closed }
+        ensures cause { HasCause self.old.faults self.new.faults result }
     {
         match obstacle {
             Obstacle::Nobody => {
                 self.counts.add_wait();
-                self.empty = true;
                 Ok(Accept::NotYet)
             }
             Obstacle::Want => {
@@ -141,75 +135,38 @@ impl<H: Net + Clock + Eprint + Copy + Drop> SocketDoor<H> {
                 Ok(Accept::NotYet)
             }
             Obstacle::Fault => {
+                self.listening = None;
                 self.counts.add_fault();
                 Err(Failed)
             }
         }
     }
 
-    /// Counts a rest, and waits for a while: until somebody comes, where nobody was there at the last look.
-    fn wait(&mut self)
-        ensures counts { self.new.counts ≡ rested self.old.counts }
-        ensures empty { IsTrue self.new.empty → IsTrue self.old.empty }
+    /// Notes that nobody comes any more.
+    fn close(&mut self)
+        ensures { self.new ≡ record self.old { closed = true } }
     {
-        self.counts.add_rest();
-        let time = milliseconds(self.patience.rest);
-        if self.empty {
-            self.empty = stays_empty(self.listener.as_raw_fd(), i32::from(time));
-        } else {
-            thread::sleep(&self.host, Duration::from_millis(u64::from(time)));
-        }
-    }
-
-    /// Says so where an accept came to this error and that is a failure of the listener.
-    fn say(&self, error: &io::Error) {
-        if let Obstacle::Fault = obstacle_of(error) {
-            say_failed(&self.host, self.location.as_ref(), error);
-        }
-    }
-
-    /// A connection that has come.
-    fn wire(&self, stream: H::Stream) -> SocketWire<PatientStream<H::Stream, H>>
-        ensures { result ≡ new_socket (Some self.now.counts.place) }
-    {
-        // Where it fails, what is written in several pieces may go out later, and nothing else changes.
-        let _ = stream.set_nodelay(true);
-        let stream = PatientStream::new(stream, self.host, self.patience);
-        SocketWire::new(stream, Some(self.counts.place()))
+        self.listening = None;
+        self.counts.close();
     }
 }
 
 impl<H: Net + Clock + Eprint + Copy + Drop> Door for SocketDoor<H> {
-    type W = SocketWire<PatientStream<H::Stream, H>>;
+    type W = DoorWire<H>;
 
-    ghost told = { λ d. d.counts };
+    ghost told = { λ d. d };
 
-    fn try_accept(&mut self) -> Result<Accept<SocketWire<PatientStream<H::Stream, H>>>, Failed> {
-        let accepted = self.listener.accept();
-        if let Err(error) = &accepted {
-            self.say(error);
+    fn try_accept(&mut self) -> Result<Accept<DoorWire<H>>, Failed> {
+        if self.counts.is_closed() || self.poller.board().is_closing() {
+            self.close();
+            return Ok(Accept::Closed);
         }
-        self.answer(accepted)
+        let arrived = self.arrived();
+        self.answer(arrived)
     }
 
     fn rest(&mut self) {
-        self.wait();
+        self.counts.add_rest();
+        self.poller.rest();
     }
-}
-
-/// The milliseconds of a rest.
-fn milliseconds(rest: Duration) -> u16
-    ensures { result ≡ min (as_nanos rest / 1_000_000) 1_000 }
-{
-    rest.as_millis().min(LONGEST_REST) as u16
-}
-
-/// Waits until somebody comes, for at most so many milliseconds, and says whether nobody did.
-fn stays_empty(listener: RawFd, milliseconds: i32) -> bool {
-    let mut asked = [pollfd {
-        fd: listener,
-        events: c::POLLIN,
-        revents: 0,
-    }];
-    c::poll(&mut asked, milliseconds) == 0
 }

@@ -1,24 +1,29 @@
-ghost use Rattle.std.specs.Prelude.{◌≡◌, ◌∷◌, [], None, IfOk, OnErr, IfSome, IsTrue, is_ok};
+ghost use Rattle.std.specs.Prelude.{◌≡◌, ◌∷◌, [], IfOk, OnErr, IfSome, IsTrue, is_ok};
 ghost use Rattle.outside_traits.specs.Causes.{HasCause};
 ghost use Rattle.outside_doors.specs.Counts.{untried, with_opened};
 ghost use Rattle.outside_traits.specs.Told.{Lists};
 ghost use Rattle.outside_doors.specs.Returns.{none_told, try_told};
 ghost use Rattle.outside_sockets.specs.Locations.{is_of_socket};
 
+use crate::door_wire::DoorWire;
+use crate::listening::Listening;
 use crate::patience::Patience;
-use crate::patient_stream::PatientStream;
+use crate::poller::Poller;
 use crate::returned_wires::{ReturnedWire, ReturnedWires};
 use crate::saying::{say_open, say_unopened};
 use crate::socket_door::SocketDoor;
 use outside_doors::{Counts, DoorCounts, Doors, ReturnedDoors, Tries, Try};
-use outside_sockets::{SocketWire, address_of};
-use outside_traits::{Failed, Wire};
+use outside_polling::PollWire;
+use outside_sockets::address_of;
+use outside_traits::Failed;
 use std::alloc::Global;
 use std::io;
 use std::io::{Eprint, ErrorKind};
 use std::marker::Model;
-use std::net::{Net, OpenListener, TcpListener};
+use std::net::{Net, ToSocketAddrs};
+use std::os::fd::RawFd;
 use std::rt::Clock;
+use std::sync::Arc;
 
 /// Doors over the TCP sockets of the system. They tell what they count, and for as long as there is memory to keep it
 /// the tries to open a door, how the calls of each wire had gone that came back, and what each door counted. They tell
@@ -28,6 +33,8 @@ pub struct SocketDoors<H: Net + Clock + Eprint + Copy + Drop> {
     alloc: Global,
     host: H,
     patience: Patience,
+    input: Option<RawFd>,
+    poller: Option<Arc<Poller<H>>>,
     counts: Counts,
     faults: u64,
     tries: Tries,
@@ -50,14 +57,17 @@ impl<H: Net + Clock + Eprint + Copy + Drop> Model for SocketDoors<H> {
 }
 
 impl<H: Net + Clock + Eprint + Copy + Drop> SocketDoors<H> {
-    /// Doors at which those who come are waited for with this patience.
-    pub fn new(alloc: Global, host: H, patience: Patience) -> SocketDoors<H>
+    /// Doors at which those who come are waited for with this patience. Where there is an input, its end closes them: a
+    /// pipe or the like, since nothing is read of it.
+    pub fn new(alloc: Global, host: H, patience: Patience, input: Option<RawFd>) -> SocketDoors<H>
         ensures { result ≡ none_told }
     {
         SocketDoors {
             alloc,
             host,
             patience,
+            input,
+            poller: None,
             counts: Counts::new(),
             faults: 0,
             tries: Tries::new(alloc),
@@ -100,6 +110,34 @@ impl<H: Net + Clock + Eprint + Copy + Drop> SocketDoors<H> {
     {
         self.returned_doors.kept()
     }
+
+    /// The one poll of all doors, which is made for the first.
+    fn poller(&mut self) -> io::Result<Arc<Poller<H>>>
+        ensures { self.new ≡ self.old }
+    {
+        if let Some(poller) = &self.poller {
+            return Ok(Arc::try_clone(poller)?);
+        }
+        let poller = Arc::new(
+            self.alloc,
+            Poller::new(self.alloc, self.host, self.patience, self.input)?,
+        )?;
+        let first = Arc::try_clone(&poller)?;
+        self.poller = Some(poller);
+        Ok(first)
+    }
+
+    /// A door of this place at the location of a socket, or why there can't be one.
+    fn door_at(&mut self, location: &str, place: u64) -> io::Result<SocketDoor<H>>
+        ensures form { IfOk result (λ _. IsTrue (is_of_socket location.now)) }
+        ensures untried { IfOk result (λ door. door ≡ untried place) }
+        ensures same { self.new ≡ self.old }
+    {
+        let poller = self.poller()?;
+        let listening = listening_at(&self.host, &poller, location)?;
+        let named = String::from_str(self.alloc, location).ok();
+        Ok(SocketDoor::new(self.host, poller, listening, named, place))
+    }
 }
 
 impl<H: Net + Clock + Eprint + Copy + Drop> Doors for SocketDoors<H> {
@@ -110,7 +148,7 @@ impl<H: Net + Clock + Eprint + Copy + Drop> Doors for SocketDoors<H> {
     // Only the location of a socket has a door.
     fn open(&mut self, location: &str) -> Result<SocketDoor<H>, Failed>
         ensures form { IfOk result (λ _. IsTrue (is_of_socket location.now)) }
-        ensures untried { IfOk result (λ door. door.counts ≡ untried self.old.tally.opened) }
+        ensures untried { IfOk result (λ door. door ≡ untried self.old.tally.opened) }
         ensures opened { IfOk result (λ _. self.new.tally ≡ with_opened self.old.tally) }
         ensures unopened { OnErr result (self.new.tally ≡ self.old.tally) }
         ensures listed { Lists self.old.tries self.new.tries (try_told location.now (is_ok result) ∷ []) }
@@ -118,14 +156,13 @@ impl<H: Net + Clock + Eprint + Copy + Drop> Doors for SocketDoors<H> {
         ensures returned_doors { self.new.returned_doors ≡ self.old.returned_doors }
         ensures cause { HasCause self.old.faults self.new.faults result }
     {
-        match listener_at(&self.host, location) {
-            Ok(listener) => {
+        let place = self.counts.opened();
+        match self.door_at(location, place) {
+            Ok(door) => {
                 say_open(&self.host, location);
-                let place = self.counts.opened();
                 self.counts.add_opened();
                 self.tries.keep(location, true);
-                let named = String::from_str(self.alloc, location).ok();
-                Ok(SocketDoor::new(self.host, listener, named, self.patience, place))
+                Ok(door)
             }
             Err(error) => {
                 say_unopened(&self.host, location, &error);
@@ -136,10 +173,14 @@ impl<H: Net + Clock + Eprint + Copy + Drop> Doors for SocketDoors<H> {
         }
     }
 
-    fn wire_back(&mut self, mut wire: SocketWire<PatientStream<H::Stream, H>>) {
+    fn wire_back(&mut self, mut wire: DoorWire<H>) {
         wire.close();
-        self.counts
-            .add_wire(wire.is_lost(), wire.is_cut(), wire.has_ended());
+        self.counts.add_wire(
+            wire.is_lost(),
+            wire.is_cut(),
+            wire.has_ended(),
+            wire.waits(),
+        );
         self.returned.keep(&wire);
     }
 
@@ -152,17 +193,26 @@ impl<H: Net + Clock + Eprint + Copy + Drop> Doors for SocketDoors<H> {
     }
 }
 
-/// A listener at the location of a socket whose accept does not wait, or why there can't be one.
+/// A listener at the location of a socket, or why there can't be one.
 ///
 /// A name may have several addresses. The first is taken at which the system lets it listen, and no other: a listener
-/// has one address, and a door one listener, so that a rest can wait for all who come to it.
-fn listener_at<H: Net>(host: &H, location: &str) -> io::Result<H::Listener>
+/// has one address, and a door one listener.
+fn listening_at<H: Net + Clock + Eprint + Copy + Drop>(
+    host: &H,
+    poller: &Arc<Poller<H>>,
+    location: &str,
+) -> io::Result<Listening<H>>
     ensures { IfOk result (λ _. IsTrue (is_of_socket location.now)) }
 {
     let Some(address) = address_of(location) else {
         return Err(io::Error::from(ErrorKind::InvalidInput));
     };
-    let listener = TcpListener::bind(host, address)?;
-    listener.set_nonblocking(true)?;
-    Ok(listener)
+    let mut reason = io::Error::from(ErrorKind::AddrNotAvailable);
+    for address in address.to_socket_addrs(host)? {
+        match Listening::new(host, poller, address) {
+            Ok(listening) => return Ok(listening),
+            Err(error) => reason = error,
+        }
+    }
+    Err(reason)
 }

@@ -5,14 +5,16 @@ ghost use Rattle.std.specs.Prelude.{◌<◌, IfOk, length};
 
 use http_link::HttpLink;
 use jolie_main::{World, run};
-use main_commands::status::{FILE_FAILED, OUT_OF_MEMORY, OUTPUT_FAILED, USAGE_ERROR};
+use main_commands::status::{DONE, FILE_FAILED, OUT_OF_MEMORY, OUTPUT_FAILED, USAGE_ERROR};
 use main_commands::{Words, understood};
+use outside_doors::Counts;
 use outside_socket_doors::{Patience, SocketDoors};
 use outside_sockets::SocketDial;
 use outside_traits::{Inputs, Outputs, Storage};
 use std::alloc::{AllocError, Global};
 use std::io::Read;
 use std::net::Net;
+use std::os::fd::{AsRawFd, RawFd};
 use std::process::ExitCode;
 use std::rt::Clock;
 use std::time::Duration;
@@ -26,8 +28,14 @@ const NOT_UTF8: &str = "error: invalid UTF-8 was detected in one or more argumen
 /// The status of a run whose input failed.
 const INPUT_FAILED: u8 = 4;
 
+/// The status of a run of which a door failed.
+const DOOR_FAILED: u8 = 7;
+
 /// How many seconds a call to a service elsewhere may take.
 const LONGEST_TRIP: u64 = 30;
+
+/// What the environment has where the end of the standard input closes the doors.
+const HELD_BY_INPUT: &str = "ROQSULEI_HELD_BY_INPUT";
 
 fn main(rt: HostRuntime) -> ExitCode {
     let alloc = rt.alloc();
@@ -44,13 +52,36 @@ fn main(rt: HostRuntime) -> ExitCode {
         input: Inputs::new(rt.stdin()),
         output: Outputs::new(rt.stdout()),
         notes: Outputs::new(rt.stderr()),
-        doors: SocketDoors::new(alloc, &rt, patience()),
+        doors: SocketDoors::new(alloc, &rt, patience(), held_by(&rt)),
         links,
     };
     match run(alloc, &words, &mut world) {
-        Ok(run) => ended(&rt, &words, run.status),
+        Ok(run) => {
+            say_served(&rt, &words, world.doors.counts(), run.status);
+            ended(&rt, &words, run.status)
+        }
         Err(_) => ended(&rt, &words, OUT_OF_MEMORY),
     }
+}
+
+/// Says why a run ends that opened doors and came to its end, and how many connections it had. All is as it would be
+/// where nothing can be said.
+fn say_served(rt: &HostRuntime, words: &[String], counts: &Counts, status: u8) {
+    if counts.opened() == 0 || (status != DONE && status != DOOR_FAILED) {
+        return;
+    }
+    let Ok(Words::Command(command)) = understood(rt.alloc(), words) else {
+        return;
+    };
+    let came = counts.wires_back();
+    let why = if counts.doors_ended() == counts.opened() {
+        "no door is open any more"
+    } else if came < u64::from(command.connections) {
+        "no request came for very long"
+    } else {
+        "no further connection may come"
+    };
+    let _ = eprintln!(rt; "roqsulei: ended, since {why}; connections: {came}");
 }
 
 /// The end of the program with a status. Where nothing else says why, standard error does, in one line; of a door that
@@ -93,14 +124,23 @@ fn begun(rt: &HostRuntime, file: &str) -> io::Result<usize> {
     opened.read(&mut first)
 }
 
-/// How long those who come in at a door are waited for: each is read in its turn, so that one who says nothing holds up
-/// the others for that long.
+/// How long those who come in at a door are waited for. One who says nothing holds up nobody, but has one of the places
+/// of those that may be open at once.
 fn patience() -> Patience {
     Patience {
-        idle: Duration::from_secs(2),
-        request: Duration::from_secs(5),
-        answer: Duration::from_secs(5),
+        idle: Duration::from_secs(60),
+        request: Duration::from_secs(30),
+        answer: Duration::from_secs(30),
         rest: Duration::from_secs(1),
+    }
+}
+
+/// The standard input, where its end is to close the doors: who starts the program asks for it by a word in the
+/// environment, since the input of a program that serves is mostly at its end from the beginning.
+fn held_by(rt: &HostRuntime) -> Option<RawFd> {
+    match env::var(rt, HELD_BY_INPUT) {
+        Ok(_) => Some(rt.stdin().as_raw_fd()),
+        Err(_) => None,
     }
 }
 

@@ -1,0 +1,170 @@
+use std::alloc::{AllocError, Global};
+use std::sync::atomic::{AtomicBool, AtomicU64, Ordering};
+
+/// How many places a board has. Where more sockets are open, those of one place share what is reported there: each is
+/// then called once too often, and none too seldom.
+pub(crate) const PLACES: usize = 4_096;
+
+/// What the poll has reported of the sockets of a place, and whether somebody waits for that.
+#[derive(Drop)]
+struct Place {
+    /// How often something was reported.
+    rings: AtomicU64,
+    /// How often it was that a peer sends no more.
+    ends: AtomicU64,
+    /// How many of the sockets wait for a report, since their last call has found nothing.
+    waiting: AtomicU64,
+    /// After how many rests something was reported for which one waited that has not been called since, where it was.
+    due: AtomicU64,
+}
+
+/// What the poll has reported, for all sockets to read.
+#[derive(Drop)]
+pub(crate) struct Board {
+    places: Vec<Place>,
+    given: AtomicU64,
+    looks: AtomicU64,
+    now: AtomicU64,
+    /// How many rests there were, with one before the first, and how many places have something that is due since.
+    rests: AtomicU64,
+    due: AtomicU64,
+    is_closing: AtomicBool,
+}
+
+impl Board {
+    /// A board on which nothing was reported.
+    pub(crate) fn new(alloc: Global) -> Result<Board, AllocError> {
+        let mut places = Vec::new(alloc);
+        for _ in 0..PLACES {
+            places.push(Place {
+                rings: AtomicU64::new(0),
+                ends: AtomicU64::new(0),
+                waiting: AtomicU64::new(0),
+                due: AtomicU64::new(0),
+            })?;
+        }
+        Ok(Board {
+            places,
+            given: AtomicU64::new(0),
+            looks: AtomicU64::new(0),
+            now: AtomicU64::new(0),
+            rests: AtomicU64::new(1),
+            due: AtomicU64::new(0),
+            is_closing: AtomicBool::new(false),
+        })
+    }
+
+    /// The place of one more socket: each in turn.
+    pub(crate) fn next_place(&self) -> usize {
+        self.given.fetch_add(1, Ordering::SeqCst) as usize % PLACES
+    }
+
+    /// How often something was reported at a place.
+    pub(crate) fn rings(&self, place: usize) -> u64 {
+        match self.places.get(place) {
+            Some(place) => place.rings.load(Ordering::SeqCst),
+            None => 0,
+        }
+    }
+
+    /// How often it was reported at a place that a peer sends no more.
+    pub(crate) fn ends(&self, place: usize) -> u64 {
+        match self.places.get(place) {
+            Some(place) => place.ends.load(Ordering::SeqCst),
+            None => 0,
+        }
+    }
+
+    /// Notes that something was reported at a place, and whether its peer sends no more.
+    pub(crate) fn ring(&self, place: usize, is_end: bool) {
+        if let Some(place) = self.places.get(place) {
+            self.ring_at(place, is_end);
+        }
+    }
+
+    /// Notes that anything may have come at each place.
+    pub(crate) fn ring_all(&self) {
+        for place in &self.places {
+            self.ring_at(place, true);
+        }
+    }
+
+    fn ring_at(&self, place: &Place, is_end: bool) {
+        if is_end {
+            place.ends.fetch_add(1, Ordering::SeqCst);
+        }
+        place.rings.fetch_add(1, Ordering::SeqCst);
+        let rests = self.rests.load(Ordering::SeqCst);
+        if place.waiting.load(Ordering::SeqCst) != 0
+            && place.due.swap(rests, Ordering::SeqCst) != rests
+        {
+            self.due.fetch_add(1, Ordering::SeqCst);
+        }
+    }
+
+    /// Notes that a socket of a place waits for a report from now on.
+    pub(crate) fn wait(&self, place: usize) {
+        if let Some(place) = self.places.get(place) {
+            place.waiting.fetch_add(1, Ordering::SeqCst);
+        }
+    }
+
+    /// Notes that a socket of a place waits no more.
+    pub(crate) fn leave(&self, place: usize) {
+        if let Some(place) = self.places.get(place) {
+            place.waiting.fetch_sub(1, Ordering::SeqCst);
+        }
+    }
+
+    /// Notes that a socket of a place is called, so that nothing is due there.
+    pub(crate) fn attend(&self, place: usize) {
+        let Some(place) = self.places.get(place) else {
+            return;
+        };
+        if place.due.load(Ordering::SeqCst) == self.rests.load(Ordering::SeqCst) {
+            place.due.store(0, Ordering::SeqCst);
+            self.due.fetch_sub(1, Ordering::SeqCst);
+        }
+    }
+
+    /// Whether something is due at a place.
+    pub(crate) fn is_due(&self) -> bool {
+        self.due.load(Ordering::SeqCst) != 0
+    }
+
+    /// Notes that a rest has ended: what was due is no more.
+    pub(crate) fn end_rest(&self) {
+        self.rests.fetch_add(1, Ordering::SeqCst);
+        self.due.store(0, Ordering::SeqCst);
+    }
+
+    /// How often the poll was asked.
+    pub(crate) fn looks(&self) -> u64 {
+        self.looks.load(Ordering::SeqCst)
+    }
+
+    /// Notes that the poll was asked.
+    pub(crate) fn add_look(&self) {
+        self.looks.fetch_add(1, Ordering::SeqCst);
+    }
+
+    /// The nanoseconds of the clock when the poll was asked last.
+    pub(crate) fn now(&self) -> u64 {
+        self.now.load(Ordering::SeqCst)
+    }
+
+    /// Notes the nanoseconds of the clock.
+    pub(crate) fn set_now(&self, now: u64) {
+        self.now.store(now, Ordering::SeqCst);
+    }
+
+    /// Whether nobody new is to be let in any more.
+    pub(crate) fn is_closing(&self) -> bool {
+        self.is_closing.load(Ordering::SeqCst)
+    }
+
+    /// Notes that nobody new is to be let in any more.
+    pub(crate) fn close(&self) {
+        self.is_closing.store(true, Ordering::SeqCst);
+    }
+}

@@ -1,0 +1,129 @@
+ghost use Rattle.std.specs.Prelude.{◌≡◌};
+ghost use Rattle.outside_socket_doors.specs.Lines.{new_wire};
+
+use crate::line::Line;
+use outside_polling::{PollWire, Ready};
+use outside_traits::Failed;
+use std::io::Eprint;
+use std::marker::Model;
+use std::net::Net;
+use std::rt::Clock;
+
+/// A connection over a socket, whose reads and writes do not wait for the peer. It came at the door before which so many
+/// others had been opened.
+#[derive(Drop)]
+pub struct DoorWire<H: Net + Clock + Eprint + Copy + Drop> {
+    line: Option<Line<H>>,
+    lost: bool,
+    cut: bool,
+    ended: bool,
+    waits: u64,
+    door: u64,
+}
+
+impl<H: Net + Clock + Eprint + Copy + Drop> Model for DoorWire<H> {
+    ghost use Rattle.std.specs.Prelude.{is_none};
+    ghost use Rattle.outside_socket_doors.specs.Lines.{LineTold};
+
+    ghost Value = { LineTold };
+
+    ghost view = { λ w. record {
+      read_failed = w.lost;
+      write_failed = w.cut;
+      ended = w.ended;
+      closed = is_none w.line;
+      waits = w.waits;
+      door = w.door;
+    } };
+}
+
+impl<H: Net + Clock + Eprint + Copy + Drop> DoorWire<H> {
+    /// A connection over a line, of which no call has failed or waited.
+    pub(crate) fn new(line: Line<H>, door: u64) -> DoorWire<H>
+        ensures { result ≡ new_wire door }
+    {
+        DoorWire {
+            line: Some(line),
+            lost: false,
+            cut: false,
+            ended: false,
+            waits: 0,
+            door,
+        }
+    }
+
+    /// At which door it came: how many doors had been opened before that.
+    pub fn door(&self) -> u64
+        ensures { result ≡ self.now.door }
+    {
+        self.door
+    }
+
+    /// How often it has answered that it can move nothing yet.
+    pub fn waits(&self) -> u64
+        ensures { result ≡ self.now.waits }
+    {
+        self.waits
+    }
+
+    /// Whether a read has failed.
+    pub fn is_lost(&self) -> bool
+        ensures { result ≡ self.now.read_failed }
+    {
+        self.lost
+    }
+
+    /// Whether a write has failed before the wire was closed.
+    pub fn is_cut(&self) -> bool
+        ensures { result ≡ self.now.write_failed }
+    {
+        self.cut
+    }
+
+    /// Whether a read has told the end of what comes in.
+    pub fn has_ended(&self) -> bool
+        ensures { result ≡ self.now.ended }
+    {
+        self.ended
+    }
+}
+
+impl<H: Net + Clock + Eprint + Copy + Drop> PollWire for DoorWire<H> {
+    ghost use Rattle.outside_socket_doors.specs.Lines.{told_by_line};
+
+    ghost told = { λ w. told_by_line w };
+
+    fn try_read(&mut self, into: &mut [u8]) -> Result<Ready, Failed> {
+        let has_room = !into.is_empty();
+        let Some(line) = &mut self.line else {
+            return Ok(Ready::Done(0));
+        };
+        let answer = line.try_read(into);
+        match answer {
+            Ok(Ready::Done(count)) => self.ended |= has_room && count == 0,
+            Ok(Ready::NotYet) => self.waits = self.waits.saturating_add(1),
+            Err(Failed) => self.lost = true,
+        }
+        answer
+    }
+
+    fn try_write(&mut self, from: &[u8]) -> Result<Ready, Failed> {
+        let Some(line) = &mut self.line else {
+            return Err(Failed);
+        };
+        let answer = line.try_write(from);
+        match answer {
+            Ok(Ready::Done(_)) => {}
+            Ok(Ready::NotYet) => self.waits = self.waits.saturating_add(1),
+            Err(Failed) => self.cut = true,
+        }
+        answer
+    }
+
+    fn close(&mut self) {
+        if let Some(line) = &mut self.line {
+            line.shut();
+        }
+        self.line = None;
+    }
+}
