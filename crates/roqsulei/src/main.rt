@@ -28,6 +28,9 @@ const NOT_UTF8: &str = "error: invalid UTF-8 was detected in one or more argumen
 /// The status of a run whose input failed.
 const INPUT_FAILED: u8 = 4;
 
+/// The status of a run in which a session used its whole budget and could have gone on.
+const BUDGET_USED: u8 = 6;
+
 /// The status of a run of which a door failed.
 const DOOR_FAILED: u8 = 7;
 
@@ -67,7 +70,7 @@ fn main(rt: HostRuntime) -> ExitCode {
 /// Says why a run ends that opened doors and came to its end, and how many connections it had. All is as it would be
 /// where nothing can be said.
 fn say_served(rt: &HostRuntime, words: &[String], counts: &Counts, status: u8) {
-    if counts.opened() == 0 || (status != DONE && status != DOOR_FAILED) {
+    if counts.opened() == 0 || !comes_to_its_end(status) {
         return;
     }
     let Ok(Words::Command(command)) = understood(rt.alloc(), words) else {
@@ -82,6 +85,11 @@ fn say_served(rt: &HostRuntime, words: &[String], counts: &Counts, status: u8) {
         "no further connection may come"
     };
     let _ = eprintln!(rt; "roqsulei: ended, since {why}; connections: {came}");
+}
+
+/// Whether a run of this status over doors went on until no more came.
+fn comes_to_its_end(status: u8) -> bool {
+    matches!(status, DONE | BUDGET_USED | DOOR_FAILED)
 }
 
 /// The end of the program with a status. Where nothing else says why, standard error does, in one line; of a door that
