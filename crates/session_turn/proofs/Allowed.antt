@@ -1,6 +1,6 @@
 -- Strand after strand is looked at, until the event of one is allowed.
-use Rattle.std.proofs.Common.{◌≡◌, ℕ, ◌<◌, ◌+◌, Bool, true, false, List, [], ◌∷◌, Option, Some, None, is_some, length, below_more, refl, sym, subst, ◌∙◌, true≢false}
-use Rattle.std.specs.Prelude.{Contains, IfSome, slice_index}
+use Rattle.std.proofs.Common.{◌≡◌, ℕ, ◌<◌, ◌+◌, Bool, true, false, List, [], ◌∷◌, Option, Some, None, is_some, Result, Ok, Err, length, below_more, refl, sym, subst, ◌∙◌, true≢false}
+use Rattle.std.specs.Prelude.{Contains, IfOk, IfSome, slice_index}
 use Rattle.std.proofs.lemmas.Bool.{false≢true}
 use Rattle.std.proofs.lemmas.List.{append-nil}
 use Rattle.std.proofs.lemmas.List.Elements.{Contains-get_or}
@@ -58,6 +58,13 @@ module _ {a : Seat} {n : ℕ} {old new : Moment} where
     more = [];
     is = sym (append-nil new.seen);
   })
+
+  -- where the look succeeds
+  pub looked_ok : {asked : Need} {E : Type 0} (q : Result Bool E) → Asks (stands a old) n asked
+      → Grew a old.seen new.seen → new.config ≡ old.config → new.service ≡ old.service
+      → IfOk q (λ b. b ≡ is_there a new.seen asked) → IfOk q (LookedAt a n old new)
+  looked_ok (Ok b) asks grew c s e = looked_at b asks grew c s e
+  looked_ok (Err e) asks grew c s is = tt
 
 -- by what a look answered, the event is allowed
 pub allowed_then : {a : Seat} {n : ℕ} {old new : Moment} {b : Bool} → LookedAt a n old new b → b ≡ true

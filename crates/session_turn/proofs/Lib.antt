@@ -1,5 +1,7 @@
+pub mod Acting
 pub mod Agreeing
 pub mod Allowed
+pub mod Finding
 pub mod Fitting
 pub mod Formed
 pub mod Giving
@@ -10,16 +12,14 @@ pub mod Looking
 pub mod Matching
 pub mod NamedForms
 pub mod Naming
+pub mod Opened
 pub mod Owing
 pub mod OwnKeys
+pub mod Passing
 pub mod Sent
 pub mod Telling
 pub mod Turning
 pub mod Walking
 mod Lists
-mod Acting
 mod Served
 mod Taken
-mod Opened
-mod Finding
-mod Passing

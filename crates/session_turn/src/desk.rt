@@ -121,20 +121,20 @@ pub trait Desk {
         ensures err { OnErr result (Grew (seat (office self.now) session) (seen pass.old) (seen pass.new)) };
 
     /// Whether a message of these operations waits for the session.
-    fn has_mail(&self, pass: &mut Self::Pass, session: u32, ops: &[u32]) -> bool
+    fn has_mail(&self, pass: &mut Self::Pass, session: u32, ops: &[u32]) -> Result<bool, AllocError>
         requires pass { is_pass self.now pass.old session }
         requires may { may (seat (office self.now) session) (seen pass.old) (need.Take ops.now) ≡ true }
         ensures pass { is_pass self.now pass.new session }
         ensures grew { Grew (seat (office self.now) session) (seen pass.old) (seen pass.new) }
-        ensures exact { result ≡ is_some (first
-            (queue (past_at (seat (office self.now) session) (seen pass.new)) session ops.now)) };
+        ensures exact { IfOk result (λ b. b ≡ is_some (first
+            (queue (past_at (seat (office self.now) session) (seen pass.new)) session ops.now))) };
 
     /// Whether a call of the session has an outcome.
-    fn has_answer(&self, pass: &mut Self::Pass, session: u32, call: u32) -> bool
+    fn has_answer(&self, pass: &mut Self::Pass, session: u32, call: u32) -> Result<bool, AllocError>
         requires pass { is_pass self.now pass.old session }
         requires may { may (seat (office self.now) session) (seen pass.old) (need.Answer call) ≡ true }
         ensures pass { is_pass self.now pass.new session }
         ensures grew { Grew (seat (office self.now) session) (seen pass.old) (seen pass.new) }
-        ensures exact { result ≡ is_some (outcome_in (office self.now).setting
-            (past_at (seat (office self.now) session) (seen pass.new)) session call) };
+        ensures exact { IfOk result (λ b. b ≡ is_some (outcome_in (office self.now).setting
+            (past_at (seat (office self.now) session) (seen pass.new)) session call)) };
 }

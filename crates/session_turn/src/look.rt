@@ -96,21 +96,26 @@ fn is_allowed<D: Desk, S: Session>(
 {
     let need = need_of(player.program, session, strand)?;
     sessions_may_ask();
-    Ok(is_there(desk, pass, player.number, &need))
+    is_there(desk, pass, player.number, &need)
 }
 
 /// Whether what an event needs is there.
 #[tactic(auto, using(crate::proofs::Growing::grew_not))]
-fn is_there<D: Desk>(desk: &D, pass: &mut D::Pass, number: u32, need: &Need) -> bool
+fn is_there<D: Desk>(
+    desk: &D,
+    pass: &mut D::Pass,
+    number: u32,
+    need: &Need,
+) -> Result<bool, AllocError>
     requires pass { D.is_pass desk.now pass.old number }
     requires may { may (seat (D.office desk.now) number) (D.seen pass.old) need.now ≡ true }
     ensures pass { D.is_pass desk.now pass.new number }
     ensures grew { Grew (seat (D.office desk.now) number) (D.seen pass.old) (D.seen pass.new) }
-    ensures exact { result ≡ there (seat (D.office desk.now) number) (D.seen pass.new) need.now }
+    ensures exact { IfOk result (λ b. b ≡ there (seat (D.office desk.now) number) (D.seen pass.new) need.now) }
 {
     match need {
         Need::Take { ops } => desk.has_mail(pass, number, ops.as_slice()),
         Need::Answer { call } => desk.has_answer(pass, number, *call),
-        _ => true,
+        _ => Ok(true),
     }
 }

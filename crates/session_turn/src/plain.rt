@@ -82,12 +82,12 @@ impl<'a> Desk for PlainDesk<'a> {
     }
 
     #[tactic(auto, using(crate::proofs::Growing::grew_not))]
-    fn has_mail(&self, pass: &mut Office, session: u32, ops: &[u32]) -> bool {
-        pass.has_mail(session, ops)
+    fn has_mail(&self, pass: &mut Office, session: u32, ops: &[u32]) -> Result<bool, AllocError> {
+        Ok(pass.has_mail(session, ops))
     }
 
     #[tactic(auto, using(crate::proofs::Growing::grew_not))]
-    fn has_answer(&self, pass: &mut Office, session: u32, call: u32) -> bool {
-        pass.has_answer(session, call)
+    fn has_answer(&self, pass: &mut Office, session: u32, call: u32) -> Result<bool, AllocError> {
+        Ok(pass.has_answer(session, call))
     }
 }

@@ -3,7 +3,7 @@ use Rattle.std.proofs.Common.{refl}
 use Rattle.std.proofs.Math.Bool.{Bool-set}
 use Rattle.std.proofs.Math.Logic.{∥∥₁_elim}
 use Rattle.session_turn.specs.Seen.{seat}
-use Rattle.session_turn.proofs.Allowed.{looked_at}
+use Rattle.session_turn.proofs.Allowed.{looked_ok}
 use Rattle.session_turn.proofs.Giving.{asks_in, enabled_in, formed_in, may_from}
 use Rattle.session_turn.proofs.look.is_allowed.Goals as goal
 
@@ -23,5 +23,5 @@ is_there-requires-clause-may g c =
 
 pub returns-clause-looked : goal.returns-clause-looked
 returns-clause-looked g c =
-    looked_at c.is_there.result (asks_in c.requires.run c.in_ok-need.ensures.asks) c.is_there.ensures.grew refl refl
+    looked_ok c.is_there.result (asks_in c.requires.run c.in_ok-need.ensures.asks) c.is_there.ensures.grew refl refl
     c.is_there.ensures.exact
