@@ -1,6 +1,6 @@
 ghost use Rattle.std.specs.Prelude.{◌≡◌, ◌<◌, ◌≤◌, length, ℕ, IfOk};
 ghost use Rattle.behaviour_tree.specs.PartsView.{parts_of};
-ghost use Rattle.load_maker.specs.Lines.{lines, with_ends};
+ghost use Rattle.load_maker.specs.Lines as made;
 ghost use Rattle.load_maker.specs.Loaded.{IsLoaded};
 
 use crate::sink::Forgetting;
@@ -24,7 +24,7 @@ pub fn run_load<S: Seating>(
     lines: &[u8],
 ) -> Result<Ended, AllocError>
     requires some { 0 < length (parts_of program).services }
-    ensures { (count : ℕ) → count ≤ 600 → lines.now ≡ with_ends (lines count)
+    ensures { (count : ℕ) → count ≤ 600 → lines.now ≡ made.with_ends (made.lines count)
         → IfOk result (IsLoaded (parts_of program) text.now count) }
 {
     let mut input = UnfailingSource::new(alloc, lines)?;

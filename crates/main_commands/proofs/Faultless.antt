@@ -116,11 +116,11 @@ given_of (a ∷ rest) rows none some =
     go true false false same given none some later = absurd (true≢false none)
     go false b g same given none some later = later none some
 
-with_both : (asked : Option Verb) (operand : Option Text) (values : Values) → is_some asked ≡ true → (v : Text) × (operand ≡ Some v)
-    → (a : Asked) × (with_operand asked operand values ≡ Some a)
-with_both None operand values e there = absurd (true≢false (sym e))
-with_both (Some act) operand values e there =
-    (record { verb = act; operand = there.0; values = values }, ap (λ operand. with_operand (Some act) operand values) there.1)
+with_both : (asked : Option Verb) (given : Option Text) (values : Values) → is_some asked ≡ true → (v : Text) × (given ≡ Some v)
+    → (a : Asked) × (with_operand asked given values ≡ Some a)
+with_both None given values e there = absurd (true≢false (sym e))
+with_both (Some act) given values e there =
+    (record { verb = act; operand = there.0; values = values }, ap (λ given. with_operand (Some act) given values) there.1)
 
 -- the kinds of one level but those of its words
 abbrev pub end_of : Shape → Names → List Text → Held

@@ -221,6 +221,11 @@ by_matches : (line : List (List ℕ)) (said : Words) (found : Option Asked) → 
 by_matches line said (Some a) is none same = subst (IsRight line) (sym same) (said_asked line a none is)
 by_matches line said None is none same = absurd same
 
+-- what is found is what is said of what was asked for
+pub found_said : (asked : Option Asked) (said : Words) → Some said ≡ option_map said_by asked → IsFound asked said
+found_said None said e = absurd (none-some said (sym e))
+found_said (Some a) said e = same_Some said (said_by a) e
+
 -- a command is there, where the parser finds no fault
 pub command_is_there : (line : List (List ℕ)) (rows : _) → rows ≡ subcommand_of program line → fault_of program line ≡ [] → IsSome (asked_in rows)
 command_is_there line rows is none =
