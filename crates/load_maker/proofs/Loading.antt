@@ -1,13 +1,11 @@
 -- What the run of a load leaves, from what a run over its lines does.
-use Rattle.std.proofs.Common.{◌≡◌, ◌∙◌, refl, sym, ap, subst, ℕ, suc, ◌+◌, ◌^◌, ◌<◌, ◌≤◌, Bool, true, false, not, cond, arith, List, [], ◌∷◌, ◌++◌, length, map, append-nil, length-append, inl, inr}
-use Rattle.std.proofs.Common.{Option, Some, None, Result, Ok, Err, IfOk, true≢false}
+use Rattle.std.proofs.Common.{◌≡◌, ◌∙◌, refl, sym, ap, subst, ℕ, suc, ◌+◌, ◌≤◌, Bool, true, false, not, cond, arith, List, [], ◌∷◌, ◌++◌, length, map, append-nil, length-append, inl, inr}
+use Rattle.std.proofs.Common.{Some, None, Result, Ok, Err, IfOk, true≢false}
 use Rattle.std.specs.Prelude.{◌⊎◌}
 use Rattle.std.specs.List.{filter}
 use Rattle.std.specs.declared.alloc.AllocError.{AllocError}
 use Rattle.std.proofs.lemmas.List.{length-map, take_all}
 use Rattle.behaviour_tree.specs.Data.{ProgramParts}
-use Rattle.outside_traits.specs.Causes.{Rose}
-use Rattle.outside_traits.specs.Told.{SourceTold}
 use Rattle.outside_doors.specs.Returns.{DoorsTold}
 use Rattle.outside_links.specs.Trips.{LinkTold}
 use Rattle.run_theorem.specs.declared.ended.Ended.{Ended}

@@ -10,7 +10,7 @@ use Rattle.clap.specs.Faults.{defaults_fault, turn_fault}
 use Rattle.clap.specs.Simple.{Shape}
 use Rattle.clap.specs.Walk.{Held, Row, Waiting, Walk, finished, idle, nothing_held, option, settled_rows, walk_from, walked}
 use Rattle.clap.specs.Words.{fault_of, subcommand_of}
-use Rattle.main_commands.specs.Numbers.{most_connections, most_events, most_lines, picks_of}
+use Rattle.main_commands.specs.Numbers.{most_connections, most_events, picks_of}
 use Rattle.main_commands.specs.Table.{CommandWords, commands}
 use Rattle.main_commands.specs.Grammar.{program}
 use Rattle.main_commands.specs.Usage.{Asked, Values, verb_of, are_connections, are_picks, asked_in, operand_in, is_budget, is_option, takes_operand, is_with_value, name_of, no_values, plain_asked, plain_of, plain_pair, said_by, values_in, with_operand}

@@ -26,7 +26,7 @@ use Rattle.main_commands.specs.declared.table.Verb.TheVariants as verb
 use Rattle.main_commands.specs.declared.words.Command.{Command}
 use Rattle.main_commands.specs.declared.words.Words.{Words}
 use Rattle.main_commands.specs.declared.words.Words.TheVariants as words
-use Rattle.main_commands.proofs.Plain.{AsksFor, asked_of, asks_for, name_is, plain_line_enters, plain_line_is_faultless}
+use Rattle.main_commands.proofs.Plain.{asked_of, asks_for, name_is, plain_line_enters, plain_line_is_faultless}
 use Rattle.main_commands.proofs.Origins.{IsFit, first_comes, fit_is, fits}
 use Rattle.main_commands.proofs.Entered.{HasStop, stop_has}
 use Rattle.main_commands.proofs.ProgramBuilt.{Suits, bare_names, each_of, found_shape, operand, shapes_suit, top_rules}

@@ -1,5 +1,5 @@
 -- The program as `clap` reads it, folded over the table of the commands.
-use Rattle.std.specs.Prelude.{List, ℕ, Some, true, codes, map, fold}
+use Rattle.std.specs.Prelude.{List, Some, true, codes, map, fold}
 use Rattle.clap.specs.Words.{App, Rule, new_app, new_rule, with_rule, with_subcommand}
 use Rattle.clap.specs.declared.builder.value_parser.ValueParser.{ValueParser}
 use Rattle.clap.specs.declared.builder.value_parser.ValueParser.TheVariants as parser

@@ -1,6 +1,6 @@
 -- These definitions serve the proofs alone: no promise speaks of them.
 -- The rows of the code's table, as the definitions have them.
-use Rattle.std.specs.Prelude.{ℕ, List, map}
+use Rattle.std.specs.Prelude.{map}
 use Rattle.main_commands.specs.declared.table.OperandRow.{OperandRow}
 use Rattle.main_commands.specs.declared.table.Takes.{Takes}
 use Rattle.main_commands.specs.declared.table.OptionRow.{OptionRow}

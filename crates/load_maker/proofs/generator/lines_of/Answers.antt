@@ -1,5 +1,5 @@
 -- Line by line.
-use Rattle.std.proofs.Common.{◌≡◌, ◌∙◌, ℕ, suc, ◌+◌, ap, arith, refl, rules, string_bytes, ◌++◌, ◌∷◌, []}
+use Rattle.std.proofs.Common.{◌≡◌, ◌∙◌, suc, ◌+◌, ap, arith, rules, string_bytes, ◌++◌, ◌∷◌, []}
 use Rattle.load_maker.specs.Lines.{first_lines, number, with_ends}
 use Rattle.load_maker.proofs.LinesCut.{line_written, next_number, none_reached, none_written}
 use Rattle.load_maker.proofs.generator.lines_of.Goals as goal

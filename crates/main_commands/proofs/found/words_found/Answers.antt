@@ -1,5 +1,5 @@
 -- What is found by name is what the parser entered.
-use Rattle.std.proofs.Common.{◌≡◌, rules, Some, None, ap}
+use Rattle.std.proofs.Common.{rules, Some, None, ap}
 use Rattle.std.specs.Prelude.{option_map}
 use Rattle.clap.specs.Words.{found_of, rows_of}
 use Rattle.main_commands.specs.Usage.{said_by}

@@ -1,6 +1,6 @@
 -- The program that is parsed with is that of the definitions, in which no argument has a rule on another.
-use Rattle.std.proofs.Common.{◌≡◌, ◌∙◌, true, ap, subst, List, ℕ}
-use Rattle.clap.specs.Words.{App, FailsBy, app_of, fault_of, is_simple_and_free}
+use Rattle.std.proofs.Common.{◌∙◌, ap, subst}
+use Rattle.clap.specs.Words.{App, FailsBy, fault_of, is_simple_and_free}
 use Rattle.main_commands.specs.Usage.{spelled}
 use Rattle.main_commands.proofs.ProgramBuilt.{is_free}
 use Rattle.main_commands.proofs.words.parsed.Goals as goal
