@@ -1,5 +1,5 @@
 -- What a command does, from what its parts do.
-use Rattle.std.proofs.Common.{◌≡◌, inl, inr, refl, sym, ap, subst, ◌∙◌, append_assoc, ℕ, ◌<◌, arith, Bool, true, false, List, [], ◌∷◌, length, map, set, get_or, ◌++◌, flat_map, Option, IfSome, Result, Ok, Err, IfOk}
+use Rattle.std.proofs.Common.{◌≡◌, inl, inr, refl, sym, ap, subst, ◌∙◌, append_assoc, ℕ, ◌<◌, ◌≤◌, arith, Bool, true, false, List, [], ◌∷◌, length, map, set, get_or, ◌++◌, flat_map, Option, IfSome, Result, Ok, Err, IfOk}
 use Rattle.std.specs.Prelude.{MatchResult, Vec, codes}
 use Rattle.std.specs.declared.alloc.AllocError.{AllocError}
 use Rattle.jolie_ast.specs.declared.tree.Definition.{Definition}
@@ -25,12 +25,15 @@ use Rattle.check_verdicts.specs.Programs.{IsChecked, IsUncheckedBy}
 use Rattle.check_verdicts.specs.RefusalLines.{IsVerdict, refusal_line}
 use Rattle.jolie_main.specs.Outside.{Outside, Around, AtFirst, ByFirst, program_bytes, HasAskedFor, IsSaid, IsWritten}
 use Rattle.outside_traits.specs.Causes.{Rose}
+use Rattle.load_maker.specs.Loaded.{IsLoaded}
+use Rattle.load_maker.specs.OrderService.{order_service}
+use Rattle.load_maker.specs.Summary.{summary}
 use Rattle.explain_places.specs.Places.{line_at, column_at, line_of, mark_of}
 use Rattle.explain_notes.specs.Notes.{notes_of}
 use Rattle.explain_text.specs.Words.{rule_of}
 use Rattle.explain_text.specs.Explained.{head_line, shown, tagged_words, line_if_any, listed, advised_words, unreadable_line, IsExplained}
 use Rattle.explain_text.specs.Noted.{note_lines, IsNoted}
-use Rattle.jolie_main.specs.Headline.{Says, Checks, Explains, Prints, Runs, Serves, IsTurnedDown, ShowsAlone, IsEmptyRecord, Obeys, Promises, TellsOfFile}
+use Rattle.jolie_main.specs.Headline.{Says, SaysAt, Checks, Explains, Prints, Runs, Serves, IsTurnedDown, ShowsAlone, IsEmptyRecord, Loads, Obeys, Promises, TellsOfFile}
 use Rattle.jolie_main.specs.Headline as headline
 use Rattle.outside_links.specs.Trips.{LinkTold}
 
@@ -362,6 +365,31 @@ obeys_failed IsMade c told name files files_now source output output_now notes d
     (record { empty = empty; input = refl; notes = refl; doors = refl; links = refl })
 obeys_failed IsMade c told name files files_now source output output_now notes doors trips (Err e) named asks rose status tells empty = tt
 
+-- ---- a load
+
+-- the order service runs over the lines of a load
+pub loaded : (n : ℕ) (text : List ℕ) (found : Result Program Refusal) (program : Program) (run ended : Ended) (line : List ℕ)
+    (before now : SinkTold) → text ≡ order_service → IsFound text found → found ≡ Ok program
+    → IsLoaded (parts_of program) text n run → line ≡ summary n run.report.history.entries.items → ended.report ≡ run.report
+    → SaysAt run.status line ended.status before now → Loads n ended before now
+loaded n text found program run ended line before now named right is done sums same says =
+    headline.loaded (parts_of program) run.status
+    (subst (λ t. IsChecked t (parts_of program)) named (subst (λ x. IsFound text x) is right))
+    (subst (λ report. IsLoaded (parts_of program) order_service n (record { status = run.status; report = report })) (sym same)
+    (subst (λ t. IsLoaded (parts_of program) t n run) named done))
+    (subst (λ t. SaysAt run.status t ended.status before now)
+    (sums ∙ ap (λ report. summary n report.history.entries.items) (sym same)) says)
+
+-- and were it no program, it would be refused
+pub not_loaded : (n : ℕ) (text : List ℕ) (found : Result Program Refusal) (refusal : Refusal) (r : Result Ended AllocError)
+    (before now : SinkTold) → text ≡ order_service → IsFound text found → found ≡ Err refusal
+    → IfOk r (λ ended. ended.status ≡ 3) → IfOk r (λ ended. IsWritten (refusal_line refusal) before now)
+    → IfOk r (λ ended. IsEmptyRecord ended.report) → IfOk r (λ ended. Loads n ended before now)
+not_loaded n text found refusal (Ok ended) before now named right is status written empty =
+    headline.refused (refusal_line refusal)
+    (subst (λ t. IsUncheckedBy t (refusal_line refusal)) named (subst (λ x. IsFound text x) is right)) status written empty
+not_loaded n text found refusal (Err e) before now named right is status written empty = tt
+
 -- ---- the words
 
 -- words that are a command
@@ -372,6 +400,23 @@ pub promised : (IsMade : WireTold → Type 0) (line : List (List ℕ)) (said : W
 promised IsMade line said c held a (Ok ended) right is obeyed =
     (words.Command c, subst (λ w. IsUnderstood line w) is right, obeyed)
 promised IsMade line said c held a (Err e) right is obeyed = tt
+
+-- words that ask for a load
+pub few_lines : (line : List (List ℕ)) (said : Words) (n : ℕ) → IsUnderstood line said → said ≡ words.Load n → n ≤ 600
+few_lines line said n right is = (right.load n is).1
+
+pub loads : (IsMade : WireTold → Type 0) (line : List (List ℕ)) (said : Words) (n : ℕ) (held : List ℕ → Option (List ℕ))
+    (files : FilesTold) (source : SourceTold) (output output_now notes : SinkTold) (doors : DoorsTold) (trips : List LinkTold)
+    (r : Result Ended AllocError) → IsUnderstood line said → said ≡ words.Load n
+    → IfOk r (λ ended. Loads n ended output output_now)
+    → IfOk r (λ ended. (w : Words) × IsUnderstood line w × Promises IsMade w held ended
+    (around (outside files source output notes doors trips) (outside files source output_now notes doors trips)))
+loads IsMade line said n held files source output output_now notes doors trips (Ok ended) right is done = (
+  words.Load n,
+  subst (λ w. IsUnderstood line w) is right,
+  (done, record { files = refl; input = refl; notes = refl; doors = refl; links = refl }),
+)
+loads IsMade line said n held files source output output_now notes doors trips (Err e) right is done = tt
 
 -- words that ask for help
 pub helped : (IsMade : WireTold → Type 0) (line : List (List ℕ)) (said : Words) (text shown : List ℕ) (held : List ℕ → Option (List ℕ)) (ended : Ended)

@@ -16,6 +16,9 @@ use Rattle.check_verdicts.specs.Verdicts.{IsAccepted, IsRefusedBy}
 use Rattle.check_verdicts.specs.Programs.{IsChecked, IsUncheckedBy}
 use Rattle.check_verdicts.specs.declared.refusal.Refusal.{Refusal}
 use Rattle.check_verdicts.specs.RefusalLines.{refusal_line}
+use Rattle.load_maker.specs.Loaded.{IsLoaded}
+use Rattle.load_maker.specs.OrderService.{order_service}
+use Rattle.load_maker.specs.Summary.{summary}
 use Rattle.explain_places.specs.Places.{line_at, column_at}
 use Rattle.explain_text.specs.Explained.{head_line, unreadable_line}
 use Rattle.jolie_main.specs.Outside.{Around, ByFirst, HasAskedFor, IsReadOf, IsWhole, IsCut, IsWritten}
@@ -29,10 +32,14 @@ pub record IsEmptyRecord (run : Record) : Type 0 where
 
 -- ---- a text
 
--- the text is the answer: all of it at status 0, a part of it at status 5, where the output failed
-pub data Says (text : List ℕ) (status : ℕ) (before now : SinkTold) : Type 0 where
-  whole : status ≡ 0 → IsWhole text before now → Says text status before now
-  cut : status ≡ 5 → IsCut text before now → Says text status before now
+-- the text is the answer: all of it at the status of what was done, a part of it at status 5, where the output failed
+pub data SaysAt (done : ℕ) (text : List ℕ) (status : ℕ) (before now : SinkTold) : Type 0 where
+  whole : status ≡ done → IsWhole text before now → SaysAt done text status before now
+  cut : status ≡ 5 → IsCut text before now → SaysAt done text status before now
+
+-- the same of what was done at status 0
+abbrev pub Says : List ℕ → ℕ → SinkTold → SinkTold → Type 0
+Says = SaysAt 0
 
 -- What `check` does with a text: it says `ok` of a program, or refuses the text by its line at status 3.
 pub data Checks (text : List ℕ) (status : ℕ) (before now : SinkTold) : Type 0 where
@@ -90,6 +97,27 @@ pub data Serves (IsMade : WireTold → Type 0) (c : Command) (text : List ℕ) (
       → Serves IsMade c text ended a
   refused : IsTurnedDown text ended a → Serves IsMade c text ended a
 
+-- ---- a load
+
+-- What `load` does with so many lines: it runs the order service over the lines of the load, in memory, and says how
+-- the orders went, by the answers in the record; or, were the order service no program, it would refuse that by its
+-- line at status 3.
+pub data Loads (lines : ℕ) (ended : Ended) (before now : SinkTold) : Type 0 where
+  loaded : (parts : ProgramParts) (status : ℕ) → IsChecked order_service parts
+      → IsLoaded parts order_service lines (record { status = status; report = ended.report })
+      → SaysAt status (summary lines ended.report.history.entries.items) ended.status before now
+      → Loads lines ended before now
+  refused : (line : List ℕ) → IsUncheckedBy order_service line → ended.status ≡ 3 → IsWritten line before now
+      → IsEmptyRecord ended.report → Loads lines ended before now
+
+-- Of the outside nothing is met but the output.
+pub record MeetsOutput (a : Around) : Type 0 where
+  pub files : a.now.files ≡ a.before.files
+  pub input : a.now.input ≡ a.before.input
+  pub notes : a.now.notes ≡ a.before.notes
+  pub doors : a.now.doors ≡ a.before.doors
+  pub links : a.now.links ≡ a.before.links
+
 -- ---- a command
 
 -- what a command does with the text of its file
@@ -146,5 +174,6 @@ pub record ShowsUsageError (text : List ℕ) (ended : Ended) (a : Around) : Type
 -- tells, and the wires of its doors are made so.
 abbrev pub Promises : (WireTold → Type 0) → Words → (List ℕ → Option (List ℕ)) → Ended → Around → Type 0
 Promises IsMade (words.Command c) held ended a = Obeys IsMade c (held c.file) ended a
+Promises IsMade (words.Load n) held ended a = Loads n ended a.before.output a.now.output × MeetsOutput a
 Promises IsMade (words.Help text) held ended a = ShowsHelp text ended a
 Promises IsMade (words.UsageError text) held ended a = ShowsUsageError text ended a

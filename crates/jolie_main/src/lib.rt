@@ -1,8 +1,9 @@
 //! What the program does: it checks and prints a text of Jolie, or runs its services over lines of JSON-RPC or over
-//! HTTP.
+//! HTTP; or it runs a load of its own.
 #![tactic(auto)]
 
 mod explain;
+mod orders;
 mod say;
 mod show;
 mod top;

@@ -11,6 +11,7 @@ ghost use Rattle.jolie_main.specs.Outside.{ByFirst};
 ghost use Rattle.jolie_main.specs.Headline.{Obeys, Promises, Runs, Serves};
 
 use crate::explain::{explain_text, file_failed};
+use crate::orders::load;
 use crate::say::{refuse, show_usage_error, tell};
 use crate::show::{check_text, print_text};
 use crate::world::{Telling, World};
@@ -32,7 +33,8 @@ const MOST: u64 = 1_048_577;
 /// Does what the words of the command line say: `check FILE` says whether the file is a program, `explain FILE` says in
 /// words why it is none, or what is likely not meant in it, `print FILE` prints its definitions, `run FILE` runs its
 /// services over the lines of the input, and `serve FILE` runs them over the connections that come in at the doors of
-/// their ports. Calls to services elsewhere go by the first link, and console output goes to the notes.
+/// their ports. Calls to services elsewhere go by the first link, and console output goes to the notes. `load N` runs N
+/// orders of a shop in memory, and says how they went.
 ///
 /// The status is 0 where all that was asked for was done, 1 for a usage error, 2 where the file can't be read, 3 for a
 /// file that is refused, 4 where the input failed, 5 where the output or the notes failed, 7 where a door could not be
@@ -55,6 +57,7 @@ pub fn run<F: Files, S: Source, K: Sink, N: Sink, D: Doors, L: Link>(
 {
     match understood(alloc, words)? {
         Words::Command(command) => obey(alloc, &command, world),
+        Words::Load(lines) => load(alloc, lines, &mut world.output),
         Words::Help(text) => Ok(tell(alloc, text.as_str().as_bytes(), &mut world.output)),
         Words::UsageError(text) => {
             Ok(show_usage_error(alloc, text.as_str().as_bytes(), &mut world.notes))

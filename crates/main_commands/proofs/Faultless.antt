@@ -1,4 +1,4 @@
--- Words in which the parser finds no fault enter a command of the table, with its FILE.
+-- Words in which the parser finds no fault enter a command of the table, with its operand.
 use Rattle.std.specs.Prelude.{◌≡◌, ◌&&◌, ◌||◌, ℕ, Bool, true, false, not, List, [], ◌∷◌, Option, Some, None, is_some, if◌then◌else◌, bytes_eq, codes, find, fold, option_map, refl, IfSome}
 use Rattle.std.specs.List.{AllByRecursion as Each, list_any}
 use Rattle.std.specs.Option.{option_map_or}
@@ -13,11 +13,11 @@ use Rattle.clap.specs.Kinds.{check_kinds, or_else}
 use Rattle.clap.specs.Faults.{check_fault, defaults_fault, entered_fault, level_fault, other_fault, settle_fault, step_fault, turn_fault, walk_fault, word_fault}
 use Rattle.clap.specs.declared.error.kind.ErrorKind.TheVariants as kind
 use Rattle.main_commands.specs.Grammar.{program}
-use Rattle.main_commands.specs.Usage.{Asked, Values, action_of, asked_in, file_in, values_in, with_file}
-use Rattle.main_commands.specs.declared.table.Action.{Action}
+use Rattle.main_commands.specs.Usage.{Asked, Values, verb_of, asked_in, operand_in, values_in, with_operand}
+use Rattle.main_commands.specs.declared.table.Verb.{Verb}
 use Rattle.main_commands.proofs.Entered.{HasName, subcommand_or_other_named}
 use Rattle.main_commands.proofs.Origins.{IsFit, both_true, cons_nil, first_is_there, fit_is, fits}
-use Rattle.main_commands.proofs.ProgramBuilt.{Suits, bare_names, each_of, file, found_each, found_shape, is_command, is_known, shapes_known, shapes_suit}
+use Rattle.main_commands.proofs.ProgramBuilt.{Suits, bare_names, each_of, operand, found_each, found_shape, is_command, is_known, shapes_known, shapes_suit}
 
 -- ---- no kind among two
 
@@ -84,7 +84,7 @@ module _ (s : Shape) (names : Names) (bare : Each (λ s. s.1 ≡ []) names) (hel
       walk_other rest (walked_from s.rules names w.stopped w word) (no_second (turn_fault s names w word) (walk_fault s names (walked s.rules names w word) rest) e)
       (step_other w.stopped w word (no_first (turn_fault s names w word) (walk_fault s names (walked s.rules names w word) rest) e) has has)
 
--- ---- FILE was given
+-- ---- the operand was given
 
 no_third : (a b c : Bool) → check_kinds a b c ≡ [] → c ≡ false
 no_third true b c e = absurd (cons_nil kind.DisplayHelpOnMissingArgumentOrSubcommand [] e)
@@ -99,28 +99,28 @@ beside_no_subcommand false c e = e
 abbrev pub lacks : List Row → Rule → Bool
 lacks rows a = a.required && not (is_given a.id rows)
 
-abbrev pub wants_file : Rule → Bool
-wants_file a = a.required && bytes_eq a.id file
+abbrev pub wants_operand : Rule → Bool
+wants_operand a = a.required && bytes_eq a.id operand
 
-given_of : (rules : List Rule) (rows : List Row) → list_any (lacks rows) rules ≡ false → list_any wants_file rules ≡ true → is_given file rows ≡ true
+given_of : (rules : List Rule) (rows : List Row) → list_any (lacks rows) rules ≡ false → list_any wants_operand rules ≡ true → is_given operand rows ≡ true
 given_of [] rows none some = absurd (true≢false (sym some))
 given_of (a ∷ rest) rows none some =
-    go a.required (bytes_eq a.id file) (is_given a.id rows) (bytes_eq-Decides a.id file).0 refl none some (given_of rest rows)
+    go a.required (bytes_eq a.id operand) (is_given a.id rows) (bytes_eq-Decides a.id operand).0 refl none some (given_of rest rows)
   where
-    go : (q b g : Bool) → (b ≡ true → a.id ≡ file) → is_given a.id rows ≡ g → ((q && not g) || list_any (lacks rows) rest) ≡ false
-        → ((q && b) || list_any wants_file rest) ≡ true → (list_any (lacks rows) rest ≡ false → list_any wants_file rest ≡ true → is_given file rows ≡ true)
-        → is_given file rows ≡ true
+    go : (q b g : Bool) → (b ≡ true → a.id ≡ operand) → is_given a.id rows ≡ g → ((q && not g) || list_any (lacks rows) rest) ≡ false
+        → ((q && b) || list_any wants_operand rest) ≡ true → (list_any (lacks rows) rest ≡ false → list_any wants_operand rest ≡ true → is_given operand rows ≡ true)
+        → is_given operand rows ≡ true
     go true true true same given none some later = subst (λ (t : Text). is_given t rows ≡ true) (same refl) given
     go true true false same given none some later = absurd (true≢false none)
     go true false true same given none some later = later none some
     go true false false same given none some later = absurd (true≢false none)
     go false b g same given none some later = later none some
 
-with_both : (asked : Option Action) (file : Option Text) (values : Values) → is_some asked ≡ true → (v : Text) × (file ≡ Some v)
-    → (a : Asked) × (with_file asked file values ≡ Some a)
-with_both None file values e there = absurd (true≢false (sym e))
-with_both (Some act) file values e there =
-    (record { action = act; file = there.0; values = values }, ap (λ file. with_file (Some act) file values) there.1)
+with_both : (asked : Option Verb) (given : Option Text) (values : Values) → is_some asked ≡ true → (v : Text) × (given ≡ Some v)
+    → (a : Asked) × (with_operand asked given values ≡ Some a)
+with_both None given values e there = absurd (true≢false (sym e))
+with_both (Some act) given values e there =
+    (record { verb = act; operand = there.0; values = values }, ap (λ given. with_operand (Some act) given values) there.1)
 
 -- the kinds of one level but those of its words
 abbrev pub end_of : Shape → Names → List Text → Held
@@ -147,12 +147,12 @@ not_first false b e f = f
 shape_enters : (s : Shape) (words : List Text) → Suits s → is_known s ≡ true → IsOther s.name → level_fault s [] nothing_held words false [] ≡ []
     → (a : Asked) × (asked_in (Some (rows_at s words)) ≡ Some a)
 shape_enters s words suit known other none =
-    let is = both_true (is_some (action_of s.name)) (list_any wants_file s.rules) (not_first (bytes_eq s.name (codes "help")) (is_command s) other known) in
+    let is = both_true (is_some (verb_of s.name)) (list_any wants_operand s.rules) (not_first (bytes_eq s.name (codes "help")) (is_command s) other known) in
     let rows = rows_after s.rules [] words in
     let checks = (level_checks s [] words false [] none).2 in
     let given = given_of s.rules rows (beside_no_subcommand s.subcommand_negates_reqs (list_any (lacks rows) s.rules) (no_third _ _ _ checks)) is.1 in
-    with_both (action_of s.name) (file_in rows) (values_in rows) is.0
-    (first_is_there file s.rules (each_of (fits file) (IsFit file) s.rules (fit_is file) suit.1) words given)
+    with_both (verb_of s.name) (operand_in rows) (values_in rows) is.0
+    (first_is_there operand s.rules (each_of (fits operand) (IsFit operand) s.rules (fit_is operand) suit.1) words given)
 
 found_enters : (found : Option Shape) (word : Text) (words : List Text) → IfSome found (λ s. Suits s × (s.name ≡ word)) → IfSome found (λ s. is_known s ≡ true)
     → IsOther word → is_some (option_map (λ s. rows_at s words) found) ≡ true → option_map_or (λ s. level_fault s [] nothing_held words false []) found [] ≡ []

@@ -13,11 +13,11 @@ use Rattle.clap.specs.Words.{fault_of, subcommand_of}
 use Rattle.main_commands.specs.Numbers.{most_connections, most_events, picks_of}
 use Rattle.main_commands.specs.Table.{CommandWords, commands}
 use Rattle.main_commands.specs.Grammar.{program}
-use Rattle.main_commands.specs.Usage.{Asked, Values, action_of, are_connections, are_picks, asked_in, command_of, file_in, is_budget, is_option, is_with_value, name_of, no_values, plain_asked, plain_of, plain_pair, values_in, with_file}
+use Rattle.main_commands.specs.Usage.{Asked, Values, verb_of, are_connections, are_picks, asked_in, operand_in, is_budget, is_option, takes_operand, is_with_value, name_of, no_values, plain_asked, plain_of, plain_pair, said_by, values_in, with_operand}
 use Rattle.main_commands.specs.Usage as usage
-use Rattle.main_commands.specs.declared.table.Action.{Action}
-use Rattle.main_commands.specs.declared.table.Action.TheVariants as action
-use Rattle.main_commands.specs.declared.words.Command.{Command}
+use Rattle.main_commands.specs.declared.table.Verb.{Verb}
+use Rattle.main_commands.specs.declared.table.Verb.TheVariants as verb
+use Rattle.main_commands.specs.declared.words.Words.{Words}
 use Rattle.main_commands.proofs.Origins.{both_true, is_no_flag}
 use Rattle.main_commands.proofs.Walking.{Goes, command_shape, end_fault, goes_nowhere, goes_on, line_enters, line_is_faultless}
 
@@ -44,30 +44,30 @@ is_word (b ∷ bs) e = record { dashes = not_dashes b bs e; long = not_long b bs
 
 -- ---- what the parser makes of plain words
 
-abbrev pub asked_of : Action → List ℕ → Values → Asked
-asked_of asked file values = record { action = asked; file = file; values = values }
+abbrev pub asked_of : Verb → List ℕ → Values → Asked
+asked_of asked operand values = record { verb = asked; operand = operand; values = values }
 
 -- the line of a command is met without a fault, and asks for the command with these values
-record IsMet (act : Action) (file : List ℕ) (options : List (List ℕ)) (v : Values) : Type 0 where
-  faultless : fault_of program (name_of act ∷ file ∷ options) ≡ []
-  enters : asked_in (subcommand_of program (name_of act ∷ file ∷ options)) ≡ Some (asked_of act file v)
+record IsMet (act : Verb) (operand : List ℕ) (options : List (List ℕ)) (v : Values) : Type 0 where
+  faultless : fault_of program (name_of act ∷ operand ∷ options) ≡ []
+  enters : asked_in (subcommand_of program (name_of act ∷ operand ∷ options)) ≡ Some (asked_of act operand v)
 
 -- what a command asks for by what is held
-abbrev asked_by : Action → Held → Option Asked
+abbrev asked_by : Verb → Held → Option Asked
 asked_by act h =
-    with_file (Some act) (file_in (finished (command_shape act).rules h)) (values_in (finished (command_shape act).rules h))
+    with_operand (Some act) (operand_in (finished (command_shape act).rules h)) (values_in (finished (command_shape act).rules h))
 
-line_is_met : (act : Action) (file : List ℕ) (options : List (List ℕ)) (v : Values) (end : Walk)
-    → Goes (command_shape act) (walk_from nothing_held) (file ∷ options) end → end_fault (command_shape act) end.held false ≡ []
-    → asked_by act end.held ≡ Some (asked_of act file v) → IsMet act file options v
-line_is_met act file options v end goes clean has = record {
-  faultless = line_is_faultless act (file ∷ options) end goes clean;
-  enters = line_enters act (file ∷ options) end goes ∙ has;
+line_is_met : (act : Verb) (operand : List ℕ) (options : List (List ℕ)) (v : Values) (end : Walk)
+    → Goes (command_shape act) (walk_from nothing_held) (operand ∷ options) end → end_fault (command_shape act) end.held false ≡ []
+    → asked_by act end.held ≡ Some (asked_of act operand v) → IsMet act operand options v
+line_is_met act operand options v end goes clean has = record {
+  faultless = line_is_faultless act (operand ∷ options) end goes clean;
+  enters = line_enters act (operand ∷ options) end goes ∙ has;
 }
 
 -- ---- word by word
 
--- a file's words are held, behind further rows
+-- a operand's words are held, behind further rows
 abbrev held_at : List Row → List ℕ → List (List ℕ) → Held
 held_at rows id values = record { rows = rows; pending = Some (id, values); skip = 0 }
 
@@ -75,9 +75,9 @@ held_at rows id values = record { rows = rows; pending = Some (id, values); skip
 abbrev walk_at : Held → Waiting → Walk
 walk_at held waiting = record { held = held; waiting = waiting; position = 2; is_trailing = false; stopped = None }
 
--- FILE was met
-abbrev at_file : List ℕ → Walk
-at_file file = walk_at (held_at [] (codes "FILE") (file ∷ [])) idle
+-- the operand was met
+abbrev at_operand : List ℕ → Walk
+at_operand operand = walk_at (held_at [] (codes "operand") (operand ∷ [])) idle
 
 -- an option was met, and waits for its value
 abbrev at_option : List Row → List ℕ → Walk
@@ -87,46 +87,51 @@ at_option rows id = walk_at (held_at rows id []) (option id)
 abbrev at_value : List Row → List ℕ → List ℕ → Walk
 at_value rows id value = walk_at (held_at rows id (value ∷ [])) idle
 
-file_goes : (act : Action) (file : List ℕ) (rest : List (List ℕ)) (end : Walk) → IsWord file → Goes (command_shape act) (at_file file) rest end
-    → Goes (command_shape act) (walk_from nothing_held) (file ∷ rest) end
+operand_goes : (act : Verb) (operand : List ℕ) (rest : List (List ℕ)) (end : Walk) → IsWord operand → Goes (command_shape act) (at_operand operand) rest end
+    → Goes (command_shape act) (walk_from nothing_held) (operand ∷ rest) end
 unfolding walked
-file_goes action.Check file rest end f more =
-    goes_on (command_shape action.Check) (walk_from nothing_held) (at_file file) end file rest (rw (f.dashes, f.long, f.short) refl)
+operand_goes verb.Check operand rest end f more =
+    goes_on (command_shape verb.Check) (walk_from nothing_held) (at_operand operand) end operand rest (rw (f.dashes, f.long, f.short) refl)
     (rw (f.dashes, f.long, f.short) refl) more
-file_goes action.Explain file rest end f more =
-    goes_on (command_shape action.Explain) (walk_from nothing_held) (at_file file) end file rest (rw (f.dashes, f.long, f.short) refl)
+operand_goes verb.Explain operand rest end f more =
+    goes_on (command_shape verb.Explain) (walk_from nothing_held) (at_operand operand) end operand rest (rw (f.dashes, f.long, f.short) refl)
     (rw (f.dashes, f.long, f.short) refl) more
-file_goes action.Print file rest end f more =
-    goes_on (command_shape action.Print) (walk_from nothing_held) (at_file file) end file rest (rw (f.dashes, f.long, f.short) refl)
+operand_goes verb.Print operand rest end f more =
+    goes_on (command_shape verb.Print) (walk_from nothing_held) (at_operand operand) end operand rest (rw (f.dashes, f.long, f.short) refl)
     (rw (f.dashes, f.long, f.short) refl) more
-file_goes action.Run file rest end f more =
-    goes_on (command_shape action.Run) (walk_from nothing_held) (at_file file) end file rest (rw (f.dashes, f.long, f.short) refl)
+operand_goes verb.Run operand rest end f more =
+    goes_on (command_shape verb.Run) (walk_from nothing_held) (at_operand operand) end operand rest (rw (f.dashes, f.long, f.short) refl)
     (rw (f.dashes, f.long, f.short) refl) more
-file_goes action.Serve file rest end f more =
-    goes_on (command_shape action.Serve) (walk_from nothing_held) (at_file file) end file rest (rw (f.dashes, f.long, f.short) refl)
+operand_goes verb.Serve operand rest end f more =
+    goes_on (command_shape verb.Serve) (walk_from nothing_held) (at_operand operand) end operand rest (rw (f.dashes, f.long, f.short) refl)
+    (rw (f.dashes, f.long, f.short) refl) more
+operand_goes verb.Load operand rest end f more =
+    goes_on (command_shape verb.Load) (walk_from nothing_held) (at_operand operand) end operand rest (rw (f.dashes, f.long, f.short) refl)
     (rw (f.dashes, f.long, f.short) refl) more
 
--- ---- FILE alone
+-- ---- the operand alone
 
-alone_is_clean : (act : Action) (file : List ℕ) → end_fault (command_shape act) (at_file file).held false ≡ []
+alone_is_clean : (act : Verb) (operand : List ℕ) → takes_operand act operand ≡ true → end_fault (command_shape act) (at_operand operand).held false ≡ []
 unfolding defaults_fault
-alone_is_clean action.Check file = refl
-alone_is_clean action.Explain file = refl
-alone_is_clean action.Print file = refl
-alone_is_clean action.Run file = refl
-alone_is_clean action.Serve file = refl
+alone_is_clean verb.Check operand taken = refl
+alone_is_clean verb.Explain operand taken = refl
+alone_is_clean verb.Print operand taken = refl
+alone_is_clean verb.Run operand taken = refl
+alone_is_clean verb.Serve operand taken = refl
+alone_is_clean verb.Load operand taken = rw taken refl
 
-alone_has : (act : Action) (file : List ℕ) → asked_by act (at_file file).held ≡ Some (asked_of act file no_values)
-alone_has action.Check file = refl
-alone_has action.Explain file = refl
-alone_has action.Print file = refl
-alone_has action.Run file = refl
-alone_has action.Serve file = refl
+alone_has : (act : Verb) (operand : List ℕ) → asked_by act (at_operand operand).held ≡ Some (asked_of act operand no_values)
+alone_has verb.Check operand = refl
+alone_has verb.Explain operand = refl
+alone_has verb.Print operand = refl
+alone_has verb.Run operand = refl
+alone_has verb.Serve operand = refl
+alone_has verb.Load operand = refl
 
-alone_is_met : (act : Action) (file : List ℕ) → IsWord file → IsMet act file [] no_values
-alone_is_met act file f =
-    line_is_met act file [] no_values (at_file file) (file_goes act file [] (at_file file) f (goes_nowhere _ _))
-    (alone_is_clean act file) (alone_has act file)
+alone_is_met : (act : Verb) (operand : List ℕ) → IsWord operand → takes_operand act operand ≡ true → IsMet act operand [] no_values
+alone_is_met act operand f taken =
+    line_is_met act operand [] no_values (at_operand operand) (operand_goes act operand [] (at_operand operand) f (goes_nowhere _ _))
+    (alone_is_clean act operand taken) (alone_has act operand)
 
 -- ---- commands with two options
 
@@ -144,9 +149,9 @@ abbrev beside : Side → Side
 beside left = right
 beside right = left
 
-abbrev act_of : WithTwo → Action
-act_of runs = action.Run
-act_of serves = action.Serve
+abbrev act_of : WithTwo → Verb
+act_of runs = verb.Run
+act_of serves = verb.Serve
 
 abbrev shape_of : WithTwo → Shape
 shape_of t = command_shape (act_of t)
@@ -190,19 +195,19 @@ values_of serves given = record no_values { budget = given.0; connections = give
 abbrev rows_with : WithTwo → List Row → List ℕ → List ℕ → List Row
 rows_with t rows id value = settled_rows (shape_of t).rules (Some (id, value ∷ [])) rows
 
-abbrev file_rows : WithTwo → List ℕ → List Row
-file_rows t file = rows_with t [] (codes "FILE") file
+abbrev operand_rows : WithTwo → List ℕ → List Row
+operand_rows t operand = rows_with t [] (codes "operand") operand
 
--- one option was met behind FILE
+-- one option was met behind the operand
 abbrev at_one : WithTwo → Side → List ℕ → List ℕ → Walk
-at_one t o file v = at_value (file_rows t file) (id_of t o) v
+at_one t o operand v = at_value (operand_rows t operand) (id_of t o) v
 
 -- and the other one behind it
 abbrev one_rows : WithTwo → Side → List ℕ → List ℕ → List Row
-one_rows t o file v = rows_with t (file_rows t file) (id_of t o) v
+one_rows t o operand v = rows_with t (operand_rows t operand) (id_of t o) v
 
 abbrev at_two : WithTwo → Side → List ℕ → List ℕ → List ℕ → Walk
-at_two t o file v w = at_value (one_rows t o file v) (id_of t (beside o)) w
+at_two t o operand v w = at_value (one_rows t o operand v) (id_of t (beside o)) w
 
 -- the word behind an option is its value
 value_is_met : (t : WithTwo) (o : Side) (rows : List Row) (v : List ℕ) → IsWord v
@@ -229,66 +234,66 @@ option_goes t o after w v rest end g clean is more =
     (goes_on (shape_of t) (at_option after (id_of t o)) (at_value after (id_of t o) v) end v rest
     (value_is_faultless t o after v g) (value_is_met t o after v g) more)
 
--- behind FILE
-one_is_begun : (t : WithTwo) (o : Side) (file : List ℕ)
-    → walked (shape_of t).rules [] (at_file file) (word_of t o) ≡ at_option (file_rows t file) (id_of t o)
+-- behind the operand
+one_is_begun : (t : WithTwo) (o : Side) (operand : List ℕ)
+    → walked (shape_of t).rules [] (at_operand operand) (word_of t o) ≡ at_option (operand_rows t operand) (id_of t o)
 unfolding walked
-one_is_begun runs left file = refl
-one_is_begun runs right file = refl
-one_is_begun serves left file = refl
-one_is_begun serves right file = refl
+one_is_begun runs left operand = refl
+one_is_begun runs right operand = refl
+one_is_begun serves left operand = refl
+one_is_begun serves right operand = refl
 
-one_is_faultless : (t : WithTwo) (o : Side) (file : List ℕ) → turn_fault (shape_of t) [] (at_file file) (word_of t o) ≡ []
-one_is_faultless runs left file = refl
-one_is_faultless runs right file = refl
-one_is_faultless serves left file = refl
-one_is_faultless serves right file = refl
+one_is_faultless : (t : WithTwo) (o : Side) (operand : List ℕ) → turn_fault (shape_of t) [] (at_operand operand) (word_of t o) ≡ []
+one_is_faultless runs left operand = refl
+one_is_faultless runs right operand = refl
+one_is_faultless serves left operand = refl
+one_is_faultless serves right operand = refl
 
--- behind FILE and the other option
-two_are_begun : (t : WithTwo) (o : Side) (file v : List ℕ)
-    → walked (shape_of t).rules [] (at_one t o file v) (word_of t (beside o)) ≡ at_option (one_rows t o file v) (id_of t (beside o))
+-- behind the operand and the other option
+two_are_begun : (t : WithTwo) (o : Side) (operand v : List ℕ)
+    → walked (shape_of t).rules [] (at_one t o operand v) (word_of t (beside o)) ≡ at_option (one_rows t o operand v) (id_of t (beside o))
 unfolding walked
-two_are_begun runs left file v = refl
-two_are_begun runs right file v = refl
-two_are_begun serves left file v = refl
-two_are_begun serves right file v = refl
+two_are_begun runs left operand v = refl
+two_are_begun runs right operand v = refl
+two_are_begun serves left operand v = refl
+two_are_begun serves right operand v = refl
 
-two_are_faultless : (t : WithTwo) (o : Side) (file v : List ℕ) → takes t o v ≡ true
-    → turn_fault (shape_of t) [] (at_one t o file v) (word_of t (beside o)) ≡ []
-two_are_faultless runs left file v taken = rw taken refl
-two_are_faultless runs right file v taken = refl
-two_are_faultless serves left file v taken = rw taken refl
-two_are_faultless serves right file v taken = rw taken refl
+two_are_faultless : (t : WithTwo) (o : Side) (operand v : List ℕ) → takes t o v ≡ true
+    → turn_fault (shape_of t) [] (at_one t o operand v) (word_of t (beside o)) ≡ []
+two_are_faultless runs left operand v taken = rw taken refl
+two_are_faultless runs right operand v taken = refl
+two_are_faultless serves left operand v taken = rw taken refl
+two_are_faultless serves right operand v taken = rw taken refl
 
 -- at the end
-one_is_clean : (t : WithTwo) (o : Side) (file v : List ℕ) → takes t o v ≡ true → end_fault (shape_of t) (at_one t o file v).held false ≡ []
+one_is_clean : (t : WithTwo) (o : Side) (operand v : List ℕ) → takes t o v ≡ true → end_fault (shape_of t) (at_one t o operand v).held false ≡ []
 unfolding defaults_fault
-one_is_clean runs left file v taken = rw taken refl
-one_is_clean runs right file v taken = refl
-one_is_clean serves left file v taken = rw taken refl
-one_is_clean serves right file v taken = rw taken refl
+one_is_clean runs left operand v taken = rw taken refl
+one_is_clean runs right operand v taken = refl
+one_is_clean serves left operand v taken = rw taken refl
+one_is_clean serves right operand v taken = rw taken refl
 
-one_has : (t : WithTwo) (o : Side) (file v : List ℕ)
-    → asked_by (act_of t) (at_one t o file v).held ≡ Some (asked_of (act_of t) file (values_of t (given_one o v)))
-one_has runs left file v = refl
-one_has runs right file v = refl
-one_has serves left file v = refl
-one_has serves right file v = refl
+one_has : (t : WithTwo) (o : Side) (operand v : List ℕ)
+    → asked_by (act_of t) (at_one t o operand v).held ≡ Some (asked_of (act_of t) operand (values_of t (given_one o v)))
+one_has runs left operand v = refl
+one_has runs right operand v = refl
+one_has serves left operand v = refl
+one_has serves right operand v = refl
 
-two_are_clean : (t : WithTwo) (o : Side) (file v w : List ℕ) → takes t (beside o) w ≡ true
-    → end_fault (shape_of t) (at_two t o file v w).held false ≡ []
+two_are_clean : (t : WithTwo) (o : Side) (operand v w : List ℕ) → takes t (beside o) w ≡ true
+    → end_fault (shape_of t) (at_two t o operand v w).held false ≡ []
 unfolding defaults_fault
-two_are_clean runs left file v w taken = refl
-two_are_clean runs right file v w taken = rw taken refl
-two_are_clean serves left file v w taken = rw taken refl
-two_are_clean serves right file v w taken = rw taken refl
+two_are_clean runs left operand v w taken = refl
+two_are_clean runs right operand v w taken = rw taken refl
+two_are_clean serves left operand v w taken = rw taken refl
+two_are_clean serves right operand v w taken = rw taken refl
 
-two_have : (t : WithTwo) (o : Side) (file v w : List ℕ)
-    → asked_by (act_of t) (at_two t o file v w).held ≡ Some (asked_of (act_of t) file (values_of t (given_two o v w)))
-two_have runs left file v w = refl
-two_have runs right file v w = refl
-two_have serves left file v w = refl
-two_have serves right file v w = refl
+two_have : (t : WithTwo) (o : Side) (operand v w : List ℕ)
+    → asked_by (act_of t) (at_two t o operand v w).held ≡ Some (asked_of (act_of t) operand (values_of t (given_two o v w)))
+two_have runs left operand v w = refl
+two_have runs right operand v w = refl
+two_have serves left operand v w = refl
+two_have serves right operand v w = refl
 
 -- ---- lines with options
 
@@ -297,30 +302,30 @@ record IsTaken (is_taken : List ℕ → Bool) (v : List ℕ) : Type 0 where
   word : IsWord v
   taken : is_taken v ≡ true
 
-none_is_met : (t : WithTwo) (file : List ℕ) → IsWord file → IsMet (act_of t) file [] (values_of t (None, None))
-none_is_met runs file f = alone_is_met action.Run file f
-none_is_met serves file f = alone_is_met action.Serve file f
+none_is_met : (t : WithTwo) (operand : List ℕ) → IsWord operand → IsMet (act_of t) operand [] (values_of t (None, None))
+none_is_met runs operand f = alone_is_met verb.Run operand f refl
+none_is_met serves operand f = alone_is_met verb.Serve operand f refl
 
-one_is_met : (t : WithTwo) (o : Side) (file v : List ℕ) → IsWord file → IsTaken (takes t o) v
-    → IsMet (act_of t) file (word_of t o ∷ v ∷ []) (values_of t (given_one o v))
-one_is_met t o file v f g =
-    line_is_met (act_of t) file (word_of t o ∷ v ∷ []) (values_of t (given_one o v)) (at_one t o file v)
-    (file_goes (act_of t) file (word_of t o ∷ v ∷ []) (at_one t o file v) f
-    (option_goes t o (file_rows t file) (at_file file) v [] (at_one t o file v) g.word (one_is_faultless t o file) (one_is_begun t o file)
+one_is_met : (t : WithTwo) (o : Side) (operand v : List ℕ) → IsWord operand → IsTaken (takes t o) v
+    → IsMet (act_of t) operand (word_of t o ∷ v ∷ []) (values_of t (given_one o v))
+one_is_met t o operand v f g =
+    line_is_met (act_of t) operand (word_of t o ∷ v ∷ []) (values_of t (given_one o v)) (at_one t o operand v)
+    (operand_goes (act_of t) operand (word_of t o ∷ v ∷ []) (at_one t o operand v) f
+    (option_goes t o (operand_rows t operand) (at_operand operand) v [] (at_one t o operand v) g.word (one_is_faultless t o operand) (one_is_begun t o operand)
     (goes_nowhere _ _)))
-    (one_is_clean t o file v g.taken) (one_has t o file v)
+    (one_is_clean t o operand v g.taken) (one_has t o operand v)
 
-two_are_met : (t : WithTwo) (o : Side) (file v w : List ℕ) → IsWord file → IsTaken (takes t o) v → IsTaken (takes t (beside o)) w
-    → IsMet (act_of t) file (word_of t o ∷ v ∷ word_of t (beside o) ∷ w ∷ []) (values_of t (given_two o v w))
-two_are_met t o file v w f g h =
-    let end = at_two t o file v w in
+two_are_met : (t : WithTwo) (o : Side) (operand v w : List ℕ) → IsWord operand → IsTaken (takes t o) v → IsTaken (takes t (beside o)) w
+    → IsMet (act_of t) operand (word_of t o ∷ v ∷ word_of t (beside o) ∷ w ∷ []) (values_of t (given_two o v w))
+two_are_met t o operand v w f g h =
+    let end = at_two t o operand v w in
     let last = word_of t (beside o) ∷ w ∷ [] in
-    line_is_met (act_of t) file (word_of t o ∷ v ∷ last) (values_of t (given_two o v w)) end
-    (file_goes (act_of t) file (word_of t o ∷ v ∷ last) end f
-    (option_goes t o (file_rows t file) (at_file file) v last end g.word (one_is_faultless t o file) (one_is_begun t o file)
-    (option_goes t (beside o) (one_rows t o file v) (at_one t o file v) w [] end h.word (two_are_faultless t o file v g.taken) (two_are_begun t o file v)
+    line_is_met (act_of t) operand (word_of t o ∷ v ∷ last) (values_of t (given_two o v w)) end
+    (operand_goes (act_of t) operand (word_of t o ∷ v ∷ last) end f
+    (option_goes t o (operand_rows t operand) (at_operand operand) v last end g.word (one_is_faultless t o operand) (one_is_begun t o operand)
+    (option_goes t (beside o) (one_rows t o operand v) (at_one t o operand v) w [] end h.word (two_are_faultless t o operand v g.taken) (two_are_begun t o operand v)
     (goes_nowhere _ _))))
-    (two_are_clean t o file v w h.taken) (two_have t o file v w)
+    (two_are_clean t o operand v w h.taken) (two_have t o operand v w)
 
 -- ---- which options are plain
 
@@ -395,86 +400,99 @@ module _ (x y : List ℕ) (takes_x takes_y : List ℕ → Bool) (P : List (List 
 
 -- the plain options of a command are met
 abbrev MetWith : WithTwo → List ℕ → List (List ℕ) → Option (List ℕ) × Option (List ℕ) → Type 0
-MetWith t file options given = IsMet (act_of t) file options (values_of t given)
+MetWith t operand options given = IsMet (act_of t) operand options (values_of t given)
 
-pairs_are_met : (t : WithTwo) (file : List ℕ) → IsWord file
-    → OfPair (word_of t left) (word_of t right) (takes t left) (takes t right) (MetWith t file)
-pairs_are_met t file f = record {
-  none = none_is_met t file f;
-  x_alone = λ v g. one_is_met t left file v f g;
-  y_alone = λ v g. one_is_met t right file v f g;
-  x_first = λ v w g h. two_are_met t left file v w f g h;
-  y_first = λ v w g h. two_are_met t right file v w f g h;
+pairs_are_met : (t : WithTwo) (operand : List ℕ) → IsWord operand
+    → OfPair (word_of t left) (word_of t right) (takes t left) (takes t right) (MetWith t operand)
+pairs_are_met t operand f = record {
+  none = none_is_met t operand f;
+  x_alone = λ v g. one_is_met t left operand v f g;
+  y_alone = λ v g. one_is_met t right operand v f g;
+  x_first = λ v w g h. two_are_met t left operand v w f g h;
+  y_first = λ v w g h. two_are_met t right operand v w f g h;
 }
 
-options_are_met : (t : WithTwo) (file : List ℕ) (options : List (List ℕ)) (v : Values) (found : Option (Option (List ℕ) × Option (List ℕ))) → IsWord file
+options_are_met : (t : WithTwo) (operand : List ℕ) (options : List (List ℕ)) (v : Values) (found : Option (Option (List ℕ) × Option (List ℕ))) → IsWord operand
     → plain_pair (is_with_value (word_of t left) (takes t left)) (is_with_value (word_of t right) (takes t right)) options ≡ found
-    → option_map (values_of t) found ≡ Some v → IsMet (act_of t) file options v
-options_are_met t file options v None f is e = absurd (none-some v e)
-options_are_met t file options v (Some given) f is e =
-    subst (IsMet (act_of t) file options) (same_Some (values_of t given) v e)
-    (pair_is (word_of t left) (word_of t right) (takes t left) (takes t right) (MetWith t file) (pairs_are_met t file f) given options is)
+    → option_map (values_of t) found ≡ Some v → IsMet (act_of t) operand options v
+options_are_met t operand options v None f is e = absurd (none-some v e)
+options_are_met t operand options v (Some given) f is e =
+    subst (IsMet (act_of t) operand options) (same_Some (values_of t given) v e)
+    (pair_is (word_of t left) (word_of t right) (takes t left) (takes t right) (MetWith t operand) (pairs_are_met t operand f) given options is)
 
-plain_is_met : (act : Action) (file : List ℕ) (options : List (List ℕ)) (v : Values) → IsWord file → plain_of act options ≡ Some v
-    → IsMet act file options v
-plain_is_met action.Run file options v f e = options_are_met runs file options v (plain_pair is_budget are_picks options) f refl e
-plain_is_met action.Serve file options v f e = options_are_met serves file options v (plain_pair is_budget are_connections options) f refl e
-plain_is_met action.Check file [] v f e = subst (IsMet action.Check file []) (same_Some no_values v e) (alone_is_met action.Check file f)
-plain_is_met action.Check file (word ∷ rest) v f e = absurd (none-some v e)
-plain_is_met action.Explain file [] v f e = subst (IsMet action.Explain file []) (same_Some no_values v e) (alone_is_met action.Explain file f)
-plain_is_met action.Explain file (word ∷ rest) v f e = absurd (none-some v e)
-plain_is_met action.Print file [] v f e = subst (IsMet action.Print file []) (same_Some no_values v e) (alone_is_met action.Print file f)
-plain_is_met action.Print file (word ∷ rest) v f e = absurd (none-some v e)
+plain_is_met : (act : Verb) (operand : List ℕ) (options : List (List ℕ)) (v : Values) → IsWord operand → takes_operand act operand ≡ true
+    → plain_of act options ≡ Some v → IsMet act operand options v
+plain_is_met verb.Run operand options v f taken e = options_are_met runs operand options v (plain_pair is_budget are_picks options) f refl e
+plain_is_met verb.Serve operand options v f taken e = options_are_met serves operand options v (plain_pair is_budget are_connections options) f refl e
+plain_is_met verb.Check operand [] v f taken e = subst (IsMet verb.Check operand []) (same_Some no_values v e) (alone_is_met verb.Check operand f refl)
+plain_is_met verb.Check operand (word ∷ rest) v f taken e = absurd (none-some v e)
+plain_is_met verb.Explain operand [] v f taken e = subst (IsMet verb.Explain operand []) (same_Some no_values v e) (alone_is_met verb.Explain operand f refl)
+plain_is_met verb.Explain operand (word ∷ rest) v f taken e = absurd (none-some v e)
+plain_is_met verb.Print operand [] v f taken e = subst (IsMet verb.Print operand []) (same_Some no_values v e) (alone_is_met verb.Print operand f refl)
+plain_is_met verb.Print operand (word ∷ rest) v f taken e = absurd (none-some v e)
+plain_is_met verb.Load operand [] v f taken e = subst (IsMet verb.Load operand []) (same_Some no_values v e) (alone_is_met verb.Load operand f taken)
+plain_is_met verb.Load operand (word ∷ rest) v f taken e = absurd (none-some v e)
 
 -- ---- which words are plain
 
 -- each command of the table is called by its name
-table_names : Each (λ (c : CommandWords). c.name ≡ name_of c.action) commands
-table_names = (refl, (refl, (refl, (refl, (refl, tt)))))
+table_names : Each (λ (c : CommandWords). c.name ≡ name_of c.verb) commands
+table_names = (refl, (refl, (refl, (refl, (refl, (refl, tt))))))
 
-abbrev pub action_found : Option CommandWords → Option Action
-action_found = option_map (λ command. command.action)
+abbrev pub verb_found : Option CommandWords → Option Verb
+verb_found = option_map (λ command. command.verb)
 
-name_in : (word : List ℕ) (table : List CommandWords) (a : Action) → Each (λ (c : CommandWords). c.name ≡ name_of c.action) table
-    → action_found (find (λ (command : CommandWords). bytes_eq command.name word) table) ≡ Some a → word ≡ name_of a
+name_in : (word : List ℕ) (table : List CommandWords) (a : Verb) → Each (λ (c : CommandWords). c.name ≡ name_of c.verb) table
+    → verb_found (find (λ (command : CommandWords). bytes_eq command.name word) table) ≡ Some a → word ≡ name_of a
 name_in word [] a names e = absurd (none-some a e)
 name_in word (c ∷ rest) a names e = go (bytes_eq c.name word) (bytes_eq-Decides c.name word).0 (name_in word rest a names.1) e
   where
-    go : (b : Bool) → (b ≡ true → c.name ≡ word) → (action_found (find (λ (command : CommandWords). bytes_eq command.name word) rest) ≡ Some a → word ≡ name_of a)
-        → action_found (cond b (Some c) (find (λ (command : CommandWords). bytes_eq command.name word) rest)) ≡ Some a → word ≡ name_of a
-    go true same later e = sym (same refl) ∙ (names.0 ∙ ap name_of (same_Some c.action a e))
+    go : (b : Bool) → (b ≡ true → c.name ≡ word) → (verb_found (find (λ (command : CommandWords). bytes_eq command.name word) rest) ≡ Some a → word ≡ name_of a)
+        → verb_found (cond b (Some c) (find (λ (command : CommandWords). bytes_eq command.name word) rest)) ≡ Some a → word ≡ name_of a
+    go true same later e = sym (same refl) ∙ (names.0 ∙ ap name_of (same_Some c.verb a e))
     go false same later e = later e
 
-pub name_is : (word : List ℕ) (a : Action) → action_of word ≡ Some a → word ≡ name_of a
+pub name_is : (word : List ℕ) (a : Verb) → verb_of word ≡ Some a → word ≡ name_of a
 name_is word a e = name_in word commands a table_names e
 
 record IsPlain (line : List (List ℕ)) (a : Asked) : Type 0 where
   options : List (List ℕ)
-  met : IsMet a.action a.file options a.values
-  is : line ≡ name_of a.action ∷ a.file ∷ options
+  met : IsMet a.verb a.operand options a.values
+  is : line ≡ name_of a.verb ∷ a.operand ∷ options
 
-plain_with : (name file : List ℕ) (options : List (List ℕ)) (a : Asked) (act : Action) → is_option file ≡ false → action_of name ≡ Some act
-    → (found : Option Values) → plain_of act options ≡ found → option_and_then (λ values. with_file (Some act) (Some file) values) found ≡ Some a
-    → IsPlain (name ∷ file ∷ options) a
-plain_with name file options a act free is None has e = absurd (none-some a e)
-plain_with name file options a act free is (Some v) has e =
-    subst (IsPlain (name ∷ file ∷ options)) (same_Some (asked_of act file v) a e) (record {
+plain_with : (name operand : List ℕ) (options : List (List ℕ)) (a : Asked) (act : Verb) → is_option operand ≡ false → verb_of name ≡ Some act
+    → takes_operand act operand ≡ true
+    → (found : Option Values) → plain_of act options ≡ found → option_and_then (λ values. with_operand (Some act) (Some operand) values) found ≡ Some a
+    → IsPlain (name ∷ operand ∷ options) a
+plain_with name operand options a act free is taken None has e = absurd (none-some a e)
+plain_with name operand options a act free is taken (Some v) has e =
+    subst (IsPlain (name ∷ operand ∷ options)) (same_Some (asked_of act operand v) a e) (record {
       options = options;
-      met = plain_is_met act file options v (is_word file free) has;
-      is = ap (λ (word : List ℕ). word ∷ file ∷ options) (name_is name act is);
+      met = plain_is_met act operand options v (is_word operand free) taken has;
+      is = ap (λ (word : List ℕ). word ∷ operand ∷ options) (name_is name act is);
     })
 
-plain_from : (name file : List ℕ) (options : List (List ℕ)) (a : Asked) (b : Bool) → is_option file ≡ b → (asked : Option Action) → action_of name ≡ asked
-    → (if b then None else option_and_then (λ asked. option_and_then (λ values. with_file (Some asked) (Some file) values) (plain_of asked options)) asked) ≡ Some a
-    → IsPlain (name ∷ file ∷ options) a
-plain_from name file options a true free asked is e = absurd (none-some a e)
-plain_from name file options a false free None is e = absurd (none-some a e)
-plain_from name file options a false free (Some act) is e = plain_with name file options a act free is (plain_of act options) refl e
+-- what is asked for, where its operand is taken
+abbrev asked_if : Bool → List ℕ → List (List ℕ) → Verb → Option Asked
+asked_if taken operand options asked =
+    if taken then option_and_then (λ values. with_operand (Some asked) (Some operand) values) (plain_of asked options) else None
+
+plain_if : (name operand : List ℕ) (options : List (List ℕ)) (a : Asked) (act : Verb) → is_option operand ≡ false → verb_of name ≡ Some act
+    → (taken : Bool) → takes_operand act operand ≡ taken → asked_if taken operand options act ≡ Some a → IsPlain (name ∷ operand ∷ options) a
+plain_if name operand options a act free is true taken e = plain_with name operand options a act free is taken (plain_of act options) refl e
+plain_if name operand options a act free is false taken e = absurd (none-some a e)
+
+plain_from : (name operand : List ℕ) (options : List (List ℕ)) (a : Asked) (b : Bool) → is_option operand ≡ b → (asked : Option Verb) → verb_of name ≡ asked
+    → (if b then None else option_and_then (λ asked. asked_if (takes_operand asked operand) operand options asked) asked) ≡ Some a
+    → IsPlain (name ∷ operand ∷ options) a
+plain_from name operand options a true free asked is e = absurd (none-some a e)
+plain_from name operand options a false free None is e = absurd (none-some a e)
+plain_from name operand options a false free (Some act) is e = plain_if name operand options a act free is (takes_operand act operand) refl e
 
 plain_is : (line : List (List ℕ)) (a : Asked) → plain_asked line ≡ Some a → IsPlain line a
 plain_is [] a e = absurd (none-some a e)
 plain_is (name ∷ []) a e = absurd (none-some a e)
-plain_is (name ∷ file ∷ options) a e = plain_from name file options a (is_option file) refl (action_of name) refl e
+plain_is (name ∷ operand ∷ options) a e = plain_from name operand options a (is_option operand) refl (verb_of name) refl e
 
 pub plain_line_is_faultless : (line : List (List ℕ)) (a : Asked) → plain_asked line ≡ Some a → fault_of program line ≡ []
 plain_line_is_faultless line a e =
@@ -488,16 +506,16 @@ plain_line_enters line a e =
     subst (λ (words : List (List ℕ)). asked_in (subcommand_of program words) ≡ Some a) (sym is.is)
     is.met.enters
 
--- ---- the command of plain words
+-- ---- what plain words say
 
-pub record AsksFor (line : List (List ℕ)) (c : Command) : Type 0 where
+pub record AsksFor (line : List (List ℕ)) (w : Words) : Type 0 where
   pub asked : Asked
   pub plain : plain_asked line ≡ Some asked
-  pub command : command_of asked ≡ Some c
+  pub says : said_by asked ≡ w
 
-asks_by : (line : List (List ℕ)) (c : Command) (found : Option Asked) → plain_asked line ≡ found → option_and_then command_of found ≡ Some c → AsksFor line c
-asks_by line c None is e = absurd (none-some c e)
-asks_by line c (Some a) is e = record { asked = a; plain = is; command = e }
+asks_by : (line : List (List ℕ)) (w : Words) (found : Option Asked) → plain_asked line ≡ found → option_map said_by found ≡ Some w → AsksFor line w
+asks_by line w None is e = absurd (none-some w e)
+asks_by line w (Some a) is e = record { asked = a; plain = is; says = same_Some (said_by a) w e }
 
-pub asks_for : (line : List (List ℕ)) (c : Command) → usage.plain line ≡ Some c → AsksFor line c
-asks_for line c e = asks_by line c (plain_asked line) refl e
+pub asks_for : (line : List (List ℕ)) (w : Words) → usage.plain line ≡ Some w → AsksFor line w
+asks_for line w e = asks_by line w (plain_asked line) refl e

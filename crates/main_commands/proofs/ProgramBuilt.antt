@@ -6,7 +6,7 @@ use Rattle.clap.specs.Walk.{Rule, Text, answers_to}
 use Rattle.clap.specs.Simple.{Shape, built, label_of, names_of}
 use Rattle.clap.specs.Words.{is_simple_and_free}
 use Rattle.main_commands.specs.Grammar.{program}
-use Rattle.main_commands.specs.Usage.{action_of}
+use Rattle.main_commands.specs.Usage.{verb_of}
 use Rattle.main_commands.proofs.Entered.{answers_is}
 use Rattle.main_commands.proofs.Origins.{both_true, fits, has_none, nothing_in}
 
@@ -17,12 +17,12 @@ is_free = refl
 abbrev pub top_rules : List Rule
 top_rules = (built program).top.rules
 
-abbrev pub file : Text
-file = codes "FILE"
+abbrev pub operand : Text
+operand = codes "operand"
 
--- a command has no other names, and its FILE is an operand
+-- a command has no other names, and its operand is read by its place alone
 abbrev pub suits : Shape → Bool
-suits s = has_none s.aliases && list_all (fits file) s.rules
+suits s = has_none s.aliases && list_all (fits operand) s.rules
 
 program_suits : list_all suits (built program).subs ≡ true
 program_suits = refl
@@ -34,12 +34,12 @@ each_of p P (x ∷ xs) holds e =
     (holds x both.0, each_of p P xs holds both.1)
 
 abbrev pub Suits : Shape → Type 0
-Suits s = (s.aliases ≡ []) × (list_all (fits file) s.rules ≡ true)
+Suits s = (s.aliases ≡ []) × (list_all (fits operand) s.rules ≡ true)
 
 pub shapes_suit : Each Suits (built program).subs
 shapes_suit =
     each_of suits Suits (built program).subs
-    (λ s e. let both = both_true (has_none s.aliases) (list_all (fits file) s.rules) e in (nothing_in s.aliases both.0, both.1)) program_suits
+    (λ s e. let both = both_true (has_none s.aliases) (list_all (fits operand) s.rules) e in (nothing_in s.aliases both.0, both.1)) program_suits
 
 pub bare_names : Each (λ s. s.1 ≡ []) (names_of (built program))
 bare_names = each_of (λ s. has_none s.1) (λ s. s.1 ≡ []) (names_of (built program)) (λ s e. nothing_in s.1 e) refl
@@ -55,9 +55,9 @@ found_shape word (s ∷ rest) each = go (answers_to word (label_of s)) refl (fou
 
 -- ---- its commands
 
--- a command of the table that wants its FILE
+-- a command of the table that wants its operand
 abbrev pub is_command : Shape → Bool
-is_command s = is_some (action_of s.name) && list_any (λ a. a.required && bytes_eq a.id file) s.rules
+is_command s = is_some (verb_of s.name) && list_any (λ a. a.required && bytes_eq a.id operand) s.rules
 
 -- such a command, or `help`
 abbrev pub is_known : Shape → Bool

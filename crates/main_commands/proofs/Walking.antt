@@ -7,9 +7,9 @@ use Rattle.clap.specs.Kinds.{Kinds, or_else}
 use Rattle.clap.specs.Faults.{check_fault, defaults_fault, entered_fault, level_fault, settle_fault, turn_fault, walk_fault}
 use Rattle.clap.specs.Words.{fault_of, subcommand_of}
 use Rattle.main_commands.specs.Grammar.{program}
-use Rattle.main_commands.specs.Usage.{asked_in, file_in, name_of, values_in, with_file}
-use Rattle.main_commands.specs.declared.table.Action.{Action}
-use Rattle.main_commands.specs.declared.table.Action.TheVariants as action
+use Rattle.main_commands.specs.Usage.{asked_in, operand_in, name_of, values_in, with_operand}
+use Rattle.main_commands.specs.declared.table.Verb.{Verb}
+use Rattle.main_commands.specs.declared.table.Verb.TheVariants as verb
 
 -- ---- the words of a command
 
@@ -81,34 +81,36 @@ abbrev all_names : Names
 all_names = names_of (built program)
 
 -- the command of an action, as the parser has it
-abbrev pub command_shape : Action → Shape
+abbrev pub command_shape : Verb → Shape
 command_shape act = unwrap_or (find (λ s. answers_to (name_of act) (label_of s)) (built program).subs) top
 
 -- its name is met
 abbrev at_name : Text → List Text → Walk
 at_name name words = record (walk_from nothing_held) { stopped = Some (name, words) }
 
-name_is_met : (act : Action) → walked top.rules all_names (walk_from nothing_held) (name_of act) ≡ at_name (name_of act) []
+name_is_met : (act : Verb) → walked top.rules all_names (walk_from nothing_held) (name_of act) ≡ at_name (name_of act) []
 unfolding walked
-name_is_met action.Check = refl
-name_is_met action.Explain = refl
-name_is_met action.Print = refl
-name_is_met action.Run = refl
-name_is_met action.Serve = refl
+name_is_met verb.Check = refl
+name_is_met verb.Explain = refl
+name_is_met verb.Print = refl
+name_is_met verb.Run = refl
+name_is_met verb.Serve = refl
+name_is_met verb.Load = refl
 
-name_is_faultless : (act : Action) → turn_fault top all_names (walk_from nothing_held) (name_of act) ≡ []
-name_is_faultless action.Check = refl
-name_is_faultless action.Explain = refl
-name_is_faultless action.Print = refl
-name_is_faultless action.Run = refl
-name_is_faultless action.Serve = refl
+name_is_faultless : (act : Verb) → turn_fault top all_names (walk_from nothing_held) (name_of act) ≡ []
+name_is_faultless verb.Check = refl
+name_is_faultless verb.Explain = refl
+name_is_faultless verb.Print = refl
+name_is_faultless verb.Run = refl
+name_is_faultless verb.Serve = refl
+name_is_faultless verb.Load = refl
 
-line_is_walked : (act : Action) (words : List Text) → walk top.rules all_names nothing_held (name_of act ∷ words) ≡ at_name (name_of act) words
+line_is_walked : (act : Verb) (words : List Text) → walk top.rules all_names nothing_held (name_of act ∷ words) ≡ at_name (name_of act) words
 line_is_walked act words =
     ap (λ (w : Walk). fold (walked top.rules all_names) w words) (name_is_met act)
     ∙ behind_name top all_names (at_name (name_of act) []) (name_of act) [] words refl
 
-above_is_faultless : (act : Action) (words : List Text) → walk_fault top all_names (walk_from nothing_held) (name_of act ∷ words) ≡ []
+above_is_faultless : (act : Verb) (words : List Text) → walk_fault top all_names (walk_from nothing_held) (name_of act ∷ words) ≡ []
 unfolding walk_fault
 above_is_faultless act words =
     ap (λ (k : Kinds). or_else k (walk_fault top all_names (walked top.rules all_names (walk_from nothing_held) (name_of act)) words)) (name_is_faultless act)
@@ -120,37 +122,39 @@ abbrev fault_by : Kinds → Walk → Kinds
 fault_by k w =
     or_else k (or_else (entered_fault (built program) w.stopped) (end_fault top w.held (is_some (entered (built program) w.stopped))))
 
-below_is_faultless : (act : Action) (words : List Text) → level_fault (command_shape act) [] nothing_held words false [] ≡ []
+below_is_faultless : (act : Verb) (words : List Text) → level_fault (command_shape act) [] nothing_held words false [] ≡ []
     → fault_by [] (at_name (name_of act) words) ≡ []
 unfolding defaults_fault
-below_is_faultless action.Check words none = ap (λ (k : Kinds). or_else k (end_fault top nothing_held true)) none
-below_is_faultless action.Explain words none = ap (λ (k : Kinds). or_else k (end_fault top nothing_held true)) none
-below_is_faultless action.Print words none = ap (λ (k : Kinds). or_else k (end_fault top nothing_held true)) none
-below_is_faultless action.Run words none = ap (λ (k : Kinds). or_else k (end_fault top nothing_held true)) none
-below_is_faultless action.Serve words none = ap (λ (k : Kinds). or_else k (end_fault top nothing_held true)) none
+below_is_faultless verb.Check words none = ap (λ (k : Kinds). or_else k (end_fault top nothing_held true)) none
+below_is_faultless verb.Explain words none = ap (λ (k : Kinds). or_else k (end_fault top nothing_held true)) none
+below_is_faultless verb.Print words none = ap (λ (k : Kinds). or_else k (end_fault top nothing_held true)) none
+below_is_faultless verb.Run words none = ap (λ (k : Kinds). or_else k (end_fault top nothing_held true)) none
+below_is_faultless verb.Serve words none = ap (λ (k : Kinds). or_else k (end_fault top nothing_held true)) none
+below_is_faultless verb.Load words none = ap (λ (k : Kinds). or_else k (end_fault top nothing_held true)) none
 
 -- a line whose words the command takes has no fault
-pub line_is_faultless : (act : Action) (words : List Text) (end : Walk) → Goes (command_shape act) (walk_from nothing_held) words end
+pub line_is_faultless : (act : Verb) (words : List Text) (end : Walk) → Goes (command_shape act) (walk_from nothing_held) words end
     → end_fault (command_shape act) end.held false ≡ [] → fault_of program (name_of act ∷ words) ≡ []
 line_is_faultless act words end goes none =
     ap₂ fault_by (above_is_faultless act words) (line_is_walked act words)
     ∙ below_is_faultless act words (level_is_faultless (command_shape act) words end goes none)
 
 -- and enters it with what was found then
-rows_enter : (act : Action) (words : List Text)
+rows_enter : (act : Verb) (words : List Text)
     → asked_in (entered (built program) (Some (name_of act, words)))
-    ≡ with_file (Some act) (file_in (rows_after (command_shape act).rules [] words)) (values_in (rows_after (command_shape act).rules [] words))
-rows_enter action.Check words = refl
-rows_enter action.Explain words = refl
-rows_enter action.Print words = refl
-rows_enter action.Run words = refl
-rows_enter action.Serve words = refl
+    ≡ with_operand (Some act) (operand_in (rows_after (command_shape act).rules [] words)) (values_in (rows_after (command_shape act).rules [] words))
+rows_enter verb.Check words = refl
+rows_enter verb.Explain words = refl
+rows_enter verb.Print words = refl
+rows_enter verb.Run words = refl
+rows_enter verb.Serve words = refl
+rows_enter verb.Load words = refl
 
-pub line_enters : (act : Action) (words : List Text) (end : Walk) → Goes (command_shape act) (walk_from nothing_held) words end
+pub line_enters : (act : Verb) (words : List Text) (end : Walk) → Goes (command_shape act) (walk_from nothing_held) words end
     → asked_in (subcommand_of program (name_of act ∷ words))
-    ≡ with_file (Some act) (file_in (finished (command_shape act).rules end.held)) (values_in (finished (command_shape act).rules end.held))
+    ≡ with_operand (Some act) (operand_in (finished (command_shape act).rules end.held)) (values_in (finished (command_shape act).rules end.held))
 line_enters act words end goes =
     ap (λ (w : Walk). asked_in (entered (built program) w.stopped)) (line_is_walked act words)
     ∙ rows_enter act words
-    ∙ ap (λ (w : Walk). with_file (Some act) (file_in (finished (command_shape act).rules w.held)) (values_in (finished (command_shape act).rules w.held)))
+    ∙ ap (λ (w : Walk). with_operand (Some act) (operand_in (finished (command_shape act).rules w.held)) (values_in (finished (command_shape act).rules w.held)))
     goes.ends

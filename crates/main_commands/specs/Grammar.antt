@@ -1,5 +1,5 @@
 -- The program as `clap` reads it, folded over the table of the commands.
-use Rattle.std.specs.Prelude.{List, ℕ, Some, true, codes, map, fold}
+use Rattle.std.specs.Prelude.{List, Some, true, codes, map, fold}
 use Rattle.clap.specs.Words.{App, Rule, new_app, new_rule, with_rule, with_subcommand}
 use Rattle.clap.specs.declared.builder.value_parser.ValueParser.{ValueParser}
 use Rattle.clap.specs.declared.builder.value_parser.ValueParser.TheVariants as parser
@@ -7,14 +7,18 @@ use Rattle.main_commands.specs.declared.table.Takes.{Takes}
 use Rattle.main_commands.specs.declared.table.Takes.TheVariants as takes
 use Rattle.main_commands.specs.Table.{CommandWords, OptionWords, commands}
 
--- an operand, which has to be given
-abbrev pub operand_rule : List ℕ → Rule
-operand_rule name = record (new_rule name) { required = true }
-
 -- which values are let through: numbers in the range, or any text
 abbrev pub parser_of : Takes → ValueParser
 parser_of (takes.Number least most) = parser.Unsigned least most
-parser_of takes.List = parser.String
+parser_of takes.Text = parser.String
+
+-- the operand of a command, which has to be given
+abbrev pub operand_rule : Takes → Rule
+operand_rule what = record (new_rule (codes "operand")) {
+  required = true;
+  value_names = 1;
+  parser = Some (parser_of what);
+}
 
 -- an option, with its value
 abbrev pub option_rule : OptionWords → Rule

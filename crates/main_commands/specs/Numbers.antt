@@ -14,10 +14,14 @@ most_events = 10000
 abbrev pub most_connections : ℕ
 most_connections = 65536
 
--- the number that a text writes, where it is from 1 to the most; `clap` lets no other text through
-abbrev pub number_of : ℕ → List ℕ → ℕ
-number_of most text =
-    if is_unsigned_in 1 most text then digits_value 10 (without_leading_plus text) else most
+-- the most lines of a load
+abbrev pub most_lines : ℕ
+most_lines = 600
+
+-- the number that a text writes, where it is from the least to the most; `clap` lets no other text through
+abbrev pub number_of : ℕ → ℕ → List ℕ → ℕ
+number_of least most text =
+    if is_unsigned_in least most text then digits_value 10 (without_leading_plus text) else most
 
 -- ---- picks
 

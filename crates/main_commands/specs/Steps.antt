@@ -3,9 +3,9 @@
 use Rattle.std.specs.Prelude.{ℕ, ◌+◌, ◌*◌, ◌^◌, ◌&&◌, nat_le, nat_lt, Option, Some, None, if◌then◌else◌}
 use Rattle.std.specs.Char.{digit_value, is_ascii_digit}
 
--- the number where it is from 1 to the most, else the most
-abbrev pub within : ℕ → ℕ → ℕ
-within number most = if nat_lt 0 number && nat_le number most then number else most
+-- the number where it is from the least to the most, else the most
+abbrev pub within : ℕ → ℕ → ℕ → ℕ
+within number least most = if nat_le least number && nat_le number most then number else most
 
 -- the number with one digit more, where the byte is a digit and 32 bits hold it
 abbrev pub longer : ℕ → ℕ → Option ℕ

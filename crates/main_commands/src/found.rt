@@ -3,10 +3,11 @@
 ghost use Rattle.std.specs.Prelude.{◌≡◌, IfOk, codes, map, option_map};
 ghost use Rattle.clap.specs.Words.{first_of, found_of, rows_of, subcommand_rows_of};
 ghost use Rattle.main_commands.specs.Rows.{command_words};
-ghost use Rattle.main_commands.specs.Usage.{action_in, action_of, asked_in, file_in, number_by, picks_by, said_by};
+ghost use Rattle.main_commands.specs.Usage.{asked_in, file_words, number_by, operand_in, picks_by, said_by, values_in};
+ghost use Rattle.main_commands.specs.Usage.{verb_in, verb_of};
 
-use crate::numbers::{MOST_CONNECTIONS, MOST_EVENTS, number_of, picks_of};
-use crate::table::{Action, COMMANDS, CommandRow};
+use crate::numbers::{MOST_CONNECTIONS, MOST_EVENTS, MOST_LINES, number_of, picks_of};
+use crate::table::{Action, COMMANDS, CommandRow, Verb};
 use crate::words::{Command, Words};
 use clap::ArgMatches;
 use jolie_trees::Text;
@@ -23,32 +24,48 @@ pub fn words_found(alloc: Global, matches: &ArgMatches<'_>) -> Result<Option<Wor
     let Some((name, given)) = matches.subcommand() else {
         return Ok(None);
     };
-    let Some(action) = action_called(name) else {
+    let Some(verb) = verb_called(name) else {
         return Ok(None);
     };
-    let Some(file) = file_given(given) else {
+    let Some(operand) = operand_given(given) else {
         return Ok(None);
     };
+    let Some(action) = verb.action() else {
+        return Ok(Some(Words::Load(number_of(operand, 0, MOST_LINES))));
+    };
+    Ok(Some(file_words(alloc, action, operand, given)?))
+}
+
+/// What is said of a command over a file: the command, or that its LIST is none.
+fn file_words(
+    alloc: Global,
+    action: Action,
+    file: &str,
+    given: &ArgMatches<'_>,
+) -> Result<Words, AllocError>
+    ensures { IfOk result
+        (λ words. words ≡ file_words action file.now (values_in (rows_of (found_of given.now)))) }
+{
     let Some(picks) = picks_given(alloc, given)? else {
-        return Ok(Some(Words::UsageError(Text::new(alloc, NO_LIST)?)));
+        return Ok(Words::UsageError(Text::new(alloc, NO_LIST)?));
     };
     let budget = number_given(given, "budget", MOST_EVENTS);
     let connections = number_given(given, "connections", MOST_CONNECTIONS);
     let file = Text::new(alloc, file)?;
-    Ok(Some(Words::Command(Command {
+    Ok(Words::Command(Command {
         action,
         file,
         budget,
         picks,
         connections,
-    })))
+    }))
 }
 
 #[tactic(auto, using(crate::proofs::AmongMatches::value_found))]
-fn file_given<'a>(given: &ArgMatches<'a>) -> Option<&'a str>
-    ensures { option_map (λ file. file.now) result ≡ file_in (rows_of (found_of given.now)) }
+fn operand_given<'a>(given: &ArgMatches<'a>) -> Option<&'a str>
+    ensures { option_map (λ operand. operand.now) result ≡ operand_in (rows_of (found_of given.now)) }
 {
-    given.get_str("FILE")
+    given.get_str("operand")
 }
 
 /// The number that the option of that name was given, or the most.
@@ -56,7 +73,7 @@ fn number_given(given: &ArgMatches<'_>, name: &str, most: u32) -> u32
     ensures { result ≡ number_by most (first_of name.now (rows_of (found_of given.now))) }
 {
     match given.get_str(name) {
-        Some(text) => number_of(text, most),
+        Some(text) => number_of(text, 1, most),
         None => most,
     }
 }
@@ -71,20 +88,20 @@ fn picks_given(alloc: Global, given: &ArgMatches<'_>) -> Result<Option<Items<u32
     }
 }
 
-/// The command of that name in the table.
-fn action_called(name: &str) -> Option<Action>
-    ensures { result ≡ action_of name.now }
+/// What that name asks for in the table.
+fn verb_called(name: &str) -> Option<Verb>
+    ensures { result ≡ verb_of name.now }
 {
-    action_in(&COMMANDS, name)
+    verb_in(&COMMANDS, name)
 }
 
-/// The command of that name among rows.
-fn action_in(rows: &[CommandRow], name: &str) -> Option<Action>
-    ensures { result ≡ action_in (map command_words rows.now) name.now }
+/// What that name asks for among rows.
+fn verb_in(rows: &[CommandRow], name: &str) -> Option<Verb>
+    ensures { result ≡ verb_in (map command_words rows.now) name.now }
 {
     for row in rows {
         if row.name == name {
-            return Some(row.action);
+            return Some(row.verb);
         }
     }
     None

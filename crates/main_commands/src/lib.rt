@@ -8,5 +8,5 @@ pub mod status;
 mod table;
 mod words;
 
-pub use table::{Action, COMMANDS, CommandRow, OperandRow, OptionRow, Takes};
+pub use table::{Action, COMMANDS, CommandRow, OperandRow, OptionRow, Takes, Verb};
 pub use words::{Command, Words, understood};

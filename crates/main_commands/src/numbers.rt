@@ -13,21 +13,24 @@ pub const MOST_EVENTS: u32 = 10_000;
 /// The most connections that are accepted.
 pub const MOST_CONNECTIONS: u32 = 65_536;
 
-/// The number from 1 to the most that a text writes, which the parser let through.
-pub fn number_of(text: &str, most: u32) -> u32
-    ensures { result ≡ spec.number_of most text.now }
+/// The most lines of a load.
+pub const MOST_LINES: u32 = 600;
+
+/// The number from the least to the most that a text writes, which the parser let through.
+pub fn number_of(text: &str, least: u32, most: u32) -> u32
+    ensures { result ≡ spec.number_of least most text.now }
 {
     match text.parse::<u32>() {
-        Ok(number) => within(number, most),
+        Ok(number) => within(number, least, most),
         Err(_) => most,
     }
 }
 
-/// The number where it is from 1 to the most, else the most.
-fn within(number: u32, most: u32) -> u32
-    ensures { result ≡ steps.within number most }
+/// The number where it is from the least to the most, else the most.
+fn within(number: u32, least: u32, most: u32) -> u32
+    ensures { result ≡ steps.within number least most }
 {
-    if number == 0 || number > most {
+    if number < least || number > most {
         return most;
     }
     number

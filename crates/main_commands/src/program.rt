@@ -4,7 +4,8 @@ ghost use Rattle.std.specs.Prelude.{◌≡◌, IfOk, false, map};
 ghost use Rattle.clap.specs.Words.{app_of, rule_of};
 ghost use Rattle.clap.specs.declared.builder.Command.TheViews.{out-Command as fields_of};
 ghost use Rattle.main_commands.specs.Rows.{command_words, operand_words, option_words};
-ghost use Rattle.main_commands.specs.Grammar.{bare_program, command_app, operand_rule, option_rule, program, with_commands, with_rules};
+ghost use Rattle.main_commands.specs.Grammar.{bare_program, command_app, operand_rule, option_rule, parser_of, program};
+ghost use Rattle.main_commands.specs.Grammar.{with_commands, with_rules};
 
 use crate::status::MEANINGS;
 use crate::table::{COMMANDS, CommandRow, OperandRow, OptionRow, Takes};
@@ -81,7 +82,11 @@ fn operand<'a>(alloc: Global, row: &OperandRow) -> Arg<'a>
     ensures rule { rule_of result ≡ operand_rule (operand_words row.now) }
     ensures local { result.global ≡ false }
 {
-    Arg::new(alloc, row.name).required(true).help(row.help)
+    let arg = Arg::new(alloc, "operand")
+        .value_name(row.name)
+        .required(true)
+        .help(row.help);
+    arg.value_parser(parser_of(row.takes))
 }
 
 fn with_options<'a>(
@@ -106,10 +111,19 @@ fn option<'a>(alloc: Global, row: &OptionRow) -> Arg<'a>
     ensures local { result.global ≡ false }
 {
     let arg = Arg::new(alloc, row.name).long(row.name).help(row.help);
-    match row.takes {
-        Takes::Number { least, most } => arg
-            .value_name("N")
-            .value_parser(ValueParser::Unsigned(least, most)),
-        Takes::List => arg.value_name("LIST").value_parser(ValueParser::String),
+    let arg = arg.value_name(match row.takes {
+        Takes::Number { .. } => "N",
+        Takes::Text => "LIST",
+    });
+    arg.value_parser(parser_of(row.takes))
+}
+
+/// Which values are let through.
+fn parser_of<'a>(takes: Takes) -> ValueParser<'a>
+    ensures { result ≡ parser_of takes }
+{
+    match takes {
+        Takes::Number { least, most } => ValueParser::Unsigned(least, most),
+        Takes::Text => ValueParser::String,
     }
 }

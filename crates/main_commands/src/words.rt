@@ -30,6 +30,8 @@ pub struct Command {
 #[derive(Debug, Drop)]
 pub enum Words {
     Command(Command),
+    /// A load of so many lines.
+    Load(u32),
     /// A text of help, or of the version.
     Help(Text),
     /// What is wrong with the words.

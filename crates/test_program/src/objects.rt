@@ -46,17 +46,24 @@ pub fn world(alloc: Global, row: &Row<'_>) -> anyhow::Result<Box<Memory>>
     Ok(Box::new(alloc, world)?)
 }
 
-/// The words of the row's command over the file `twice.ol`, with the row's options.
+/// The words of the row's command over its operand, or over the file `twice.ol`, with the row's options.
 pub fn words(alloc: Global, row: &Row<'_>) -> anyhow::Result<Vec<String>> {
     let mut words = Vec::new(alloc);
     words.push(row.text(alloc, "command")?)?;
-    words.push(String::from_str(alloc, "twice.ol")?)?;
+    words.push(operand(alloc, row)?)?;
     if let Some(options) = text(alloc, row, "options")? {
         for word in options.as_str().split(' ') {
             words.push(String::from_str(alloc, word)?)?;
         }
     }
     Ok(words)
+}
+
+fn operand(alloc: Global, row: &Row<'_>) -> anyhow::Result<String> {
+    match text(alloc, row, "operand")? {
+        Some(operand) => Ok(operand),
+        None => Ok(String::from_str(alloc, "twice.ol")?),
+    }
 }
 
 /// One link, whose first trip brings back what the row says, or fails.

@@ -32,6 +32,7 @@ fn words(alloc: Global, row: &Row<'_>) -> anyhow::Result<Vec<String>> {
 fn said_words(alloc: Global, said: &Words) -> Result<String, AllocError> {
     match said {
         Words::Command(command) => shown_command(alloc, command),
+        Words::Load(lines) => format!(in alloc; "Load {lines}"),
         Words::Help(text) => format!(in alloc; "told: {}", text.as_str()),
         Words::UsageError(text) => format!(in alloc; "refused: {}", text.as_str()),
     }

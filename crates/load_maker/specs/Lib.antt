@@ -1,0 +1,4 @@
+pub mod OrderService
+pub mod Lines
+pub mod Summary
+pub mod Loaded
