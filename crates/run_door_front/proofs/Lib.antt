@@ -8,7 +8,7 @@ pub mod Doors
 pub mod Resting
 pub mod Links
 pub mod Lining
-pub mod Polling
+pub mod PollingOne
 pub mod Coming
 pub mod Looking
 pub mod Handing

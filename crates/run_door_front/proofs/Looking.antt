@@ -17,7 +17,7 @@ use Rattle.run_door_front.proofs.Doors.{leads-same, all-same, all-further, all_t
 use Rattle.run_door_front.proofs.Resting.{is_done, all-rested, tried-rested, sums-rested, done-rested, rests-rested}
 use Rattle.run_door_front.proofs.Links.{links-same, links-more, links-on, clients-long}
 use Rattle.run_door_front.proofs.Lining.{unasked, open_long, opened_owing, first_asks, none_asks, ordered-taken}
-use Rattle.run_door_front.proofs.Polling.{lines-none, lines-further, paused_since}
+use Rattle.run_door_front.proofs.PollingOne.{lines-none, lines-further, paused_since}
 
 -- ---- connections that went on
 

@@ -1,7 +1,7 @@
 -- Those that are open stay among the numbers.
 use Rattle.std.proofs.Common.{refl}
 use Rattle.run_door_front.specs.Keeping.{is_open_there}
-use Rattle.run_door_front.proofs.Polling.{polls-all}
+use Rattle.run_door_front.proofs.PollingOne.{polls-all}
 use Rattle.run_door_front.proofs.polling.poll_all.Goals as goal
 
 pub returns : goal.returns

@@ -1,6 +1,6 @@
 -- The connection is polled where it stands.
 use Rattle.std.proofs.Common.{◌≡◌, ◌++◌, sym, ap, ◌∙◌, append-nil}
-use Rattle.run_door_front.proofs.Polling.{polled-at, newly-yes, newly-no}
+use Rattle.run_door_front.proofs.PollingOne.{polled-at, newly-yes, newly-no}
 use Rattle.run_door_front.proofs.polling.poll_at.Goals as goal
 
 pub index_mut-requires : goal.index_mut-requires

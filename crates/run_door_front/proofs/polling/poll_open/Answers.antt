@@ -1,6 +1,6 @@
 -- Each of the numbers is polled in turn.
 use Rattle.run_door_front.specs.NextSteps.{lined}
-use Rattle.run_door_front.proofs.Polling.{polls-none, polls-step, polls-end, number_within}
+use Rattle.run_door_front.proofs.PollingOne.{polls-none, polls-step, polls-end, number_within}
 use Rattle.run_door_front.proofs.polling.poll_open.Goals as goal
 
 pub loop-number-init : goal.loop-number-init

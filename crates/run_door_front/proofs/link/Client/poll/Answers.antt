@@ -2,7 +2,7 @@
 use Rattle.std.proofs.Common.{◌≡◌, ◌&&◌, not, refl, sym, ap, ◌∙◌}
 use Rattle.conn_future.specs.Talking.{seen}
 use Rattle.run_door_front.specs.Keeping.{ClientTold, asks}
-use Rattle.run_door_front.proofs.Polling.{polled-pending, polled-over}
+use Rattle.run_door_front.proofs.PollingOne.{polled-pending, polled-over}
 use Rattle.run_door_front.proofs.link.Client.poll.Goals as goal
 
 pub returns-in-Pending : goal.returns-in-Pending

@@ -228,6 +228,16 @@ polls-step numbers i n x y z inside is p at =
 pub polls-end : (numbers : List ℕ) (i : ℕ) (x y : Lined) → length numbers ≤ i → Polls (take i numbers) x y → Polls numbers x y
 polls-end numbers i x y short p = subst (λ ns. Polls ns x y) (take_all i numbers short) p
 
+-- a number that stands in a list is among its numbers
+any_there : (ns : List ℕ) (i n : ℕ) → slice_get ns i ≡ Some n → list_any (nat_eq n) ns ≡ true
+any_there [] i n e = absurd (none-some n e)
+any_there (k ∷ ns) zero n e = ap (λ b. b || list_any (nat_eq n) ns) (ap (nat_eq n) (same_Some k n e) ∙ nat_eq_same n)
+any_there (k ∷ ns) (suc i) n e = or_right (nat_eq n k) (list_any (nat_eq n) ns) (any_there ns i n e)
+  where
+    or_right : (a b : Bool) → b ≡ true → a || b ≡ true
+    or_right true b h = refl
+    or_right false b h = h
+
 -- a number among those that are open is of a connection
 pub number_within : (ls ms : List ClientTold) (opened queue : List ℕ) (i n : ℕ) → IsOrdered ls opened queue → ClientsGoOn ls ms → i < length opened → n ≡ get_or opened i n
     → n < length ms
@@ -235,15 +245,6 @@ number_within ls ms opened queue i n o g inside is =
     let there : slice_get opened i ≡ Some n = slice_get_read opened (length opened) i n refl inside is in
     let among : list_any (nat_eq n) (open_from 0 ls) ≡ true = subst (λ ns. list_any (nat_eq n) ns ≡ true) o.in_order (any_there opened i n there) in
     subst (λ k. n < k) (sym (clients-long ls ms g)) (opened_within ls n among)
-  where
-    any_there : (ns : List ℕ) (i n : ℕ) → slice_get ns i ≡ Some n → list_any (nat_eq n) ns ≡ true
-    any_there [] i n e = absurd (none-some n e)
-    any_there (k ∷ ns) zero n e = ap (λ b. b || list_any (nat_eq n) ns) (ap (nat_eq n) (same_Some k n e) ∙ nat_eq_same n)
-    any_there (k ∷ ns) (suc i) n e = or_right (nat_eq n k) (list_any (nat_eq n) ns) (any_there ns i n e)
-      where
-        or_right : (a b : Bool) → b ≡ true → a || b ≡ true
-        or_right true b h = refl
-        or_right false b h = h
 
 -- ---- all that are open
 
