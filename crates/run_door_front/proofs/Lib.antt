@@ -7,6 +7,7 @@ pub mod Leading
 pub mod Doors
 pub mod Resting
 pub mod Links
+pub mod InTurn
 pub mod Lining
 pub mod PollingOne
 pub mod Coming

@@ -10,12 +10,13 @@ use Rattle.run_theorem.specs.declared.front.Next.{Next}
 use Rattle.run_theorem.specs.declared.front.Next.TheVariants as nexts
 use Rattle.run_theorem.specs.Calls.{most_postings}
 use Rattle.run_door_front.specs.Keeping.{lead_of, Lead, ListenerTold, ClientTold, stage_at, is_open, asks_at, asks, owes, is_so, asks_there, owes_there, rests_at, wires_to, leads_to, closed_off, IsOrdered}
-use Rattle.run_door_front.specs.NextSteps.{wires_of, all_owing, has_room, after_rest, AreNewLinks, ClientsGoOn, LinksGoOn, AreTried, doorway, Accepts, lined, IsQueue, IsPaused, IsPausedAt, queued, PollsAll, Listing, listing, Hands, Going, going, Goes, HasPaused, HavePaused, Posts, Looks}
+use Rattle.run_door_front.specs.NextSteps.{wires_of, all_owing, has_room, after_rest, AreNewLinks, NewInTurn, ClientsGoOn, LinksGoOn, AreTried, doorway, Accepts, lined, IsQueue, IsPaused, IsPausedAt, queued, PollsAll, Listing, listing, Hands, Going, going, Goes, HasPaused, HavePaused, Posts, Looks}
 use Rattle.run_door_front.proofs.Entries.{one_if, count_cons}
 use Rattle.run_door_front.proofs.Leading.{led-more}
 use Rattle.run_door_front.proofs.Doors.{leads-same, all-same, all-further, all_tried-since, rests-on, one_more}
 use Rattle.run_door_front.proofs.Resting.{is_done, all-rested, tried-rested, sums-rested, done-rested, rests-rested}
 use Rattle.run_door_front.proofs.Links.{links-same, links-more, links-on, clients-long}
+use Rattle.run_door_front.proofs.InTurn.{turns-since, news-same, news-doors, news-more, news-on}
 use Rattle.run_door_front.proofs.Lining.{unasked, open_long, opened_owing, first_asks, none_asks, ordered-taken}
 use Rattle.run_door_front.proofs.PollingOne.{lines-none, lines-further, paused_since}
 
@@ -78,6 +79,7 @@ module _ (IsMade : WireTold → Type 0) (most : ℕ) where
   goes-none x = record {
     doors = all-same x.doors;
     connections = links-same IsMade (map lead_of x.doors) x.connections;
+    in_turn = news-same x.doors x.connections;
     traffics = refl;
     line = lines-none x.connections x.queue;
     ordered = λ o. o;
@@ -94,6 +96,10 @@ module _ (IsMade : WireTold → Type 0) (most : ℕ) where
     connections = subst (LinksGoOn IsMade (map lead_of x.doors) x.connections) (sym a.takes.grown)
         (links-more IsMade (map lead_of x.doors) x.connections y.connections a.takes.more g.connections
         (subst (λ ss. AreNewLinks IsMade ss a.takes.more) (leads-same x.doors y.doors g.doors) a.takes.fresh));
+    in_turn = subst (NewInTurn x.doors doors x.connections) (sym a.takes.grown)
+        (news-more x.doors doors x.connections y.connections a.takes.more
+        (news-doors x.doors y.doors doors x.connections y.connections a.takes.goes g.in_turn)
+        (turns-since x.doors y.doors doors a.takes.more g.doors a.takes.in_turn));
     traffics = g.traffics;
     line = g.line;
     ordered = λ o. a.takes.ordered y.queue (g.ordered o);
@@ -118,6 +124,7 @@ module _ (IsMade : WireTold → Type 0) (most : ℕ) where
   goes-polls x y links opened queue g p = record {
     doors = g.doors;
     connections = links-on IsMade (map lead_of x.doors) x.connections y.connections links g.connections p.goes;
+    in_turn = news-on IsMade (map lead_of x.doors) x.doors y.doors x.connections y.connections links g.connections p.goes g.in_turn;
     traffics = g.traffics;
     line = lines-further x.connections y.connections x.queue y.queue queue (unasked_links IsMade (map lead_of x.doors) x.connections y.connections g.connections) g.line p.line;
     ordered = λ o. p.ordered;
@@ -132,6 +139,7 @@ module _ (IsMade : WireTold → Type 0) (most : ℕ) where
   goes-rests x doors links opened queue traffics g = record {
     doors = all-further x.doors doors (after_rest doors) g.doors (all-rested doors);
     connections = g.connections;
+    in_turn = news-doors x.doors doors (after_rest doors) x.connections links (all-rested doors) g.in_turn;
     traffics = g.traffics;
     line = g.line;
     ordered = g.ordered;
