@@ -1,6 +1,6 @@
 -- What a look comes to.
-use Rattle.std.proofs.Common.{◌≡◌, refl, sym, ap, ap₂, ◌∙◌, subst, arith, ℕ, zero, suc, ◌+◌, ◌*◌, ◌-◌, ◌^◌, ◌<◌, ◌≤◌, min, Bool, true, false, ◌&&◌, ◌||◌, ◌⊎◌, inl, inr, List, [], ◌∷◌, ◌++◌, length, map, Some, nat_le, nat_eq, count_by, slice_get, slice_set, length-append}
-use Rattle.std.proofs.lemmas.Bool.{and_parts, true≢false}
+use Rattle.std.proofs.Common.{◌≡◌, refl, sym, ap, ap₂, ◌∙◌, subst, arith, ℕ, zero, suc, ◌+◌, ◌*◌, ◌-◌, ◌^◌, ◌<◌, ◌≤◌, min, Bool, true, false, ◌&&◌, ◌||◌, ◌⊎◌, inl, inr, List, [], ◌∷◌, ◌++◌, length, map, Some, nat_le, nat_lt, nat_eq, count_by, slice_get, slice_set, length-append}
+use Rattle.std.proofs.lemmas.Bool.{and_parts, ltb-true, ltb-false, true≢false}
 use Rattle.std.specs.List.{list_all, sum_by}
 use Rattle.outside_doors.specs.Counts.{added}
 use Rattle.conn_future.specs.declared.stage.Stage.TheVariants as Stages
@@ -65,6 +65,30 @@ have_paused IsMade leads (l ∷ ls) (m ∷ ms) (n ∷ ns) g h p none = (
   has_paused l.waits n (paused_since l.waits m.waits n g.0.waits (p 0 m n refl refl)) (none 0),
   have_paused IsMade leads ls ms ns g.1 h.1 (λ k. p (suc k)) (λ k. none (suc k)),
 )
+
+-- ---- whether anything changed
+
+-- there are more connections, or fewer are open
+pub changed-so : (known links among opened a b c d : ℕ) (r : Bool) → a ≡ known → b ≡ links → c ≡ among → d ≡ opened → r ≡ (nat_lt a b || nat_lt d c) → r ≡ true
+    → (known < links) ⊎ (opened < among)
+changed-so known links among opened a b c d r e f g h is so =
+    either (nat_lt known links) (nat_lt opened among) refl refl (sym (is ∙ ap₂ (λ p q. p || q) (ap₂ nat_lt e f) (ap₂ nat_lt h g)) ∙ so)
+  where
+    either : (p q : Bool) → nat_lt known links ≡ p → nat_lt opened among ≡ q → p || q ≡ true → (known < links) ⊎ (opened < among)
+    either true q more fewer both = inl (ltb-true known links more)
+    either false true more fewer both = inr (ltb-true opened among fewer)
+    either false false more fewer both = absurd (true≢false (sym both))
+
+-- there are not
+pub unchanged-so : (known links among opened a b c d : ℕ) (r : Bool) → a ≡ known → b ≡ links → c ≡ among → d ≡ opened → r ≡ (nat_lt a b || nat_lt d c)
+    → r ≡ false → (links ≤ known) × (among ≤ opened)
+unchanged-so known links among opened a b c d r e f g h is so =
+    neither (nat_lt known links) (nat_lt opened among) refl refl (sym (is ∙ ap₂ (λ p q. p || q) (ap₂ nat_lt e f) (ap₂ nat_lt h g)) ∙ so)
+  where
+    neither : (p q : Bool) → nat_lt known links ≡ p → nat_lt opened among ≡ q → p || q ≡ false → (links ≤ known) × (among ≤ opened)
+    neither true q more fewer both = absurd (true≢false both)
+    neither false true more fewer both = absurd (true≢false both)
+    neither false false more fewer both = (ltb-false known links more, ltb-false opened among fewer)
 
 -- ---- how much is left to do
 
@@ -189,9 +213,18 @@ module _ (IsMade : WireTold → Type 0) (most : ℕ) where
         let both = and_parts (closed_off most doors now) (all_owing now) (ap (λ b. closed_off most doors now && b) (sym owing_is) ∙ done) in
         inr (record { goes = turned; none = none; over = both.0; owing = both.1 })
 
+    nobody-came : length links ≤ length y.connections → length links ≡ length y.connections
+    nobody-came few = let grown = ap length a.takes.grown ∙ length-append y.connections a.takes.more in omega (arith, grown, few)
+
+    none-ended : length among ≤ length opened → length opened ≡ length among
+    none-ended many = let fewer = p.fewer in omega (arith, fewer, many)
+
     -- nothing comes for now
     module _ (none : queue ≡ []) (some : closed_off most doors now && list_all (owes_there now) opened ≡ false)
-        (nobody : length links ≡ length y.connections) (unended : length opened ≡ length among) where
+        (few : length links ≤ length y.connections) (many : length among ≤ length opened) where
+      unended : length opened ≡ length among
+      unended = none-ended many
+
       more : closed_off most doors now && all_owing now ≡ false
       more = ap (λ b. closed_off most doors now && b) (sym owing_is) ∙ some
 
@@ -256,8 +289,10 @@ module _ (IsMade : WireTold → Type 0) (most : ℕ) where
         ]
 
     -- nobody came and none ended
-    pub left-same : length links ≡ length y.connections → length opened ≡ length among → left most (going doors now opened queue y.traffics) ≡ left most y
-    left-same nobody unended =
+    pub left-same : length links ≤ length y.connections → length among ≤ length opened → left most (going doors now opened queue y.traffics) ≡ left most y
+    left-same few many =
+        let nobody = nobody-came few in
+        let unended = none-ended many in
         let grown = ap length a.takes.grown ∙ length-append y.connections a.takes.more in
         let wider = a.takes.as_many in
         let long = clients-long links now p.goes in
