@@ -21,14 +21,14 @@ use Rattle.run_door_front.proofs.Requests.{Serves, serves-on}
 -- ---- doors that were rested at
 
 -- what does not speak of rests stays
-map_rested : {A : Type 0} (f : ListenerTold → A) → ((p : ListenerTold) (n : ℕ) → f (record p { door = record p.door { rests = n } }) ≡ f p)
+pub map_rested : {A : Type 0} (f : ListenerTold → A) → ((p : ListenerTold) (n : ℕ) → f (record p { door = record p.door { rests = n } }) ≡ f p)
     → (ps qs : List ListenerTold) → AreRested ps qs → map f qs ≡ map f ps
 map_rested f same [] [] g = refl
 map_rested f same [] (q ∷ qs) g = absurd g
 map_rested f same (p ∷ ps) [] g = absurd g
 map_rested f same (p ∷ ps) (q ∷ qs) g = ap₂ (λ x xs. x ∷ xs) (ap f g.0 ∙ same p q.door.rests) (map_rested f same ps qs g.2)
 
-sum_rested : (f : ListenerTold → ℕ) → ((p : ListenerTold) (n : ℕ) → f (record p { door = record p.door { rests = n } }) ≡ f p)
+pub sum_rested : (f : ListenerTold → ℕ) → ((p : ListenerTold) (n : ℕ) → f (record p { door = record p.door { rests = n } }) ≡ f p)
     → (ps qs : List ListenerTold) → AreRested ps qs → sum_by f qs ≡ sum_by f ps
 sum_rested f same [] [] g = refl
 sum_rested f same [] (q ∷ qs) g = absurd g
