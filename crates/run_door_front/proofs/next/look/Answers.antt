@@ -7,20 +7,20 @@ use Rattle.run_door_front.specs.NextSteps.{queued, PollsAll, Goes, going, listin
 use Rattle.run_door_front.proofs.Looking.{goes-none, goes-accepts, goes-rests, turned, first-asks, looks-post, looks-end, looks-yet, changed-so, unchanged-so, left-less, left-same}
 use Rattle.run_door_front.proofs.next.look.Goals as goal
 
-pub loop-left-init : goal.loop-left-init
-loop-left-init g c = goes-none _ c.args.most _
+pub loop-opened-init : goal.loop-opened-init
+loop-opened-init g c = goes-none _ c.args.most _
 
 pub poll_all-requires : goal.poll_all-requires
 poll_all-requires g c =
     let x = going c.args.doors.now c.args.connections.now.items c.args.opened.now.items c.args.queue.now.items c.args.traffics.now.items in
-    let at = c.loop-left in
+    let at = c.loop-opened in
     let y = going at.doors at.connections.items at.opened.items at.queue.items c.args.traffics.now.items in
     (goes-accepts _ c.args.most x y c.accept_all.new.doors c.accept_all.new.connections.items c.accept_all.new.opened.items at.invariant c.in_ok-accept_all.ensures).ordered c.requires
 
 pub hand_out-requires : goal.hand_out-requires
 hand_out-requires g c =
     let x = going c.args.doors.now c.args.connections.now.items c.args.opened.now.items c.args.queue.now.items c.args.traffics.now.items in
-    let at = c.loop-left in
+    let at = c.loop-opened in
     let y = going at.doors at.connections.items at.opened.items at.queue.items c.args.traffics.now.items in
     let came = c.accept_all.new in
     let now = c.poll_all.new in
@@ -30,7 +30,7 @@ hand_out-requires g c =
 pub returns-in_ok-hand_out-in-Some : goal.returns-in_ok-hand_out-in-Some
 returns-in_ok-hand_out-in-Some g c =
     let x = going c.args.doors.now c.args.connections.now.items c.args.opened.now.items c.args.queue.now.items c.args.traffics.now.items in
-    let at = c.loop-left in
+    let at = c.loop-opened in
     let y = going at.doors at.connections.items at.opened.items at.queue.items c.args.traffics.now.items in
     let came = c.accept_all.new in
     let now = c.poll_all.new in
@@ -42,7 +42,7 @@ returns-in_ok-hand_out-in-Some g c =
 pub returns-then-is_done : goal.returns-then-is_done
 returns-then-is_done g c =
     let x = going c.args.doors.now c.args.connections.now.items c.args.opened.now.items c.args.queue.now.items c.args.traffics.now.items in
-    let at = c.loop-left in
+    let at = c.loop-opened in
     let y = going at.doors at.connections.items at.opened.items at.queue.items c.args.traffics.now.items in
     let came = c.accept_all.new in
     let now = c.poll_all.new in
@@ -54,10 +54,10 @@ returns-then-is_done g c =
     (ap₂ (λ ls ns. closed_off c.args.most came.doors ls && list_all (owes_there ls) ns) (sym c.deref.ensures.value) (sym c.deref-2.ensures.value)
     ∙ sym c.is_done.ensures ∙ c.if-is_done.true)
 
-pub loop-left-preserved-then-has_changed : goal.loop-left-preserved-then-has_changed
-loop-left-preserved-then-has_changed g c =
+pub loop-opened-preserved-then-has_changed : goal.loop-opened-preserved-then-has_changed
+loop-opened-preserved-then-has_changed g c =
     let x = going c.args.doors.now c.args.connections.now.items c.args.opened.now.items c.args.queue.now.items c.args.traffics.now.items in
-    let at = c.loop-left in
+    let at = c.loop-opened in
     let y = going at.doors at.connections.items at.opened.items at.queue.items c.args.traffics.now.items in
     let came = c.accept_all.new in
     let now = c.poll_all.new in
@@ -67,10 +67,10 @@ loop-left-preserved-then-has_changed g c =
     turned _ c.args.most x y came.doors came.connections.items now.connections.items came.opened.items now.opened.items rest
     at.invariant c.in_ok-accept_all.ensures polls
 
-pub loop-left-smaller-then-has_changed : goal.loop-left-smaller-then-has_changed
-loop-left-smaller-then-has_changed g c =
+pub loop-opened-smaller-then-has_changed : goal.loop-opened-smaller-then-has_changed
+loop-opened-smaller-then-has_changed g c =
     let x = going c.args.doors.now c.args.connections.now.items c.args.opened.now.items c.args.queue.now.items c.args.traffics.now.items in
-    let at = c.loop-left in
+    let at = c.loop-opened in
     let y = going at.doors at.connections.items at.opened.items at.queue.items c.args.traffics.now.items in
     let came = c.accept_all.new in
     let now = c.poll_all.new in
@@ -85,7 +85,7 @@ loop-left-smaller-then-has_changed g c =
 pub returns-then-not-moved : goal.returns-then-not-moved
 returns-then-not-moved g c =
     let x = going c.args.doors.now c.args.connections.now.items c.args.opened.now.items c.args.queue.now.items c.args.traffics.now.items in
-    let at = c.loop-left in
+    let at = c.loop-opened in
     let y = going at.doors at.connections.items at.opened.items at.queue.items c.args.traffics.now.items in
     let came = c.accept_all.new in
     let now = c.poll_all.new in
@@ -99,10 +99,10 @@ returns-then-not-moved g c =
     (ap₂ (λ ls ns. closed_off c.args.most came.doors ls && list_all (owes_there ls) ns) (sym c.deref.ensures.value) (sym c.deref-2.ensures.value)
     ∙ sym c.is_done.ensures ∙ c.if-is_done.false) same.0 same.1 c.rest.new.doors c.rest.ensures
 
-pub loop-left-preserved : goal.loop-left-preserved
-loop-left-preserved g c =
+pub loop-opened-preserved : goal.loop-opened-preserved
+loop-opened-preserved g c =
     let x = going c.args.doors.now c.args.connections.now.items c.args.opened.now.items c.args.queue.now.items c.args.traffics.now.items in
-    let at = c.loop-left in
+    let at = c.loop-opened in
     let y = going at.doors at.connections.items at.opened.items at.queue.items c.args.traffics.now.items in
     let came = c.accept_all.new in
     let now = c.poll_all.new in
@@ -114,10 +114,10 @@ loop-left-preserved g c =
     (turned _ c.args.most x y came.doors came.connections.items now.connections.items came.opened.items now.opened.items rest
     at.invariant c.in_ok-accept_all.ensures polls))
 
-pub loop-left-smaller : goal.loop-left-smaller
-loop-left-smaller g c =
+pub loop-opened-smaller : goal.loop-opened-smaller
+loop-opened-smaller g c =
     let x = going c.args.doors.now c.args.connections.now.items c.args.opened.now.items c.args.queue.now.items c.args.traffics.now.items in
-    let at = c.loop-left in
+    let at = c.loop-opened in
     let y = going at.doors at.connections.items at.opened.items at.queue.items c.args.traffics.now.items in
     let came = c.accept_all.new in
     let now = c.poll_all.new in

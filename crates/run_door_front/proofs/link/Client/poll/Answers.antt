@@ -25,6 +25,7 @@ returns-in-Ready-Ok g c =
     let y = c.poll.new.self in
     let now : ClientTold = record { service = x.service; seen = seen y.kept (told y.wire); waits = (told y.wire).waits; pending = x.pending } in (
       polled-over was c.args.self.now now c.self.view_is refl refl
-          (λ r. let all = c.poll.ensures.rests r in (all.0, ap told all.1)) c.poll.ensures.owes c.in-Ready-Ok.ensures.talks c.in-Ready-Ok.ensures.ends,
+          (λ r. let all = c.poll.ensures.rests r in (all.0, ap told all.1)) c.poll.ensures.owes c.in-Ready-Ok.ensures.talks
+          (rw c.in-Ready-Ok.field-0-is at c.in-Ready-Ok.ensures.ends),
       c.polled-in-Ready-Ok.ensures ∙ ap (λ b. not b && asks now) c.asks-asked.ensures,
     )
