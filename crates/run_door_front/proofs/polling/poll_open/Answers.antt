@@ -15,7 +15,7 @@ pub loop-number-preserved : goal.loop-number-preserved
 loop-number-preserved g c =
     polls-step c.args.opened.now c.loop-number.number-index _ (lined c.args.connections.now.items c.args.queue.now.items)
     (lined c.loop-number.connections.items c.loop-number.queue.items) (lined c.poll_at.new.connections.items c.poll_at.new.queue.items)
-    c.loop-number-test.true c.loop-number.invariant c.in_ok-poll_at.ensures
+    c.loop-number-test.true c.loop-number.invariant c.in_ok-moved.ensures
 
 pub returns : goal.returns
 returns g c =
