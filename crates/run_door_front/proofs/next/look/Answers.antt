@@ -4,6 +4,7 @@ use Rattle.std.specs.List.{list_all}
 use Rattle.run_theorem.specs.Calls.{most_postings}
 use Rattle.run_door_front.specs.Keeping.{closed_off, owes_there}
 use Rattle.run_door_front.specs.NextSteps.{queued, PollsAll, Goes, going, listing}
+use Rattle.run_door_front.proofs.Links.{clients-long}
 use Rattle.run_door_front.proofs.Looking.{goes-none, goes-accepts, goes-rests, turned, first-asks, looks-post, looks-end, looks-yet, changed-so, unchanged-so, left-less, left-same}
 use Rattle.run_door_front.proofs.next.look.Goals as goal
 
@@ -79,7 +80,7 @@ loop-opened-smaller-then-has_changed g c =
     (c.in_default.ensures.0 ∙ sym c.in_default.ensures.1) c.in_ok-moved.ensures in
     let less = left-less _ c.args.most x y came.doors came.connections.items now.connections.items came.opened.items now.opened.items rest
     at.invariant c.in_ok-accept_all.ensures polls (changed-so _ _ _ _ c.len-known.result c.len-in-loop-opened.result c.len-among.result c.len-in-loop-opened-2.result c.has_changed.result (c.len-known.ensures ∙ at.connections.ok.0)
-    (c.len-in-loop-opened.ensures ∙ now.connections.ok.0) (c.len-among.ensures ∙ came.opened.ok.0) (c.len-in-loop-opened-2.ensures ∙ now.opened.ok.0) c.has_changed.ensures c.if-has_changed.true) in
+    (c.len-in-loop-opened.ensures ∙ now.connections.ok.0 ∙ clients-long came.connections.items now.connections.items c.in_ok-moved.ensures.goes) (c.len-among.ensures ∙ came.opened.ok.0) (c.len-in-loop-opened-2.ensures ∙ now.opened.ok.0) c.has_changed.ensures c.if-has_changed.true) in
     omega (arith, less)
 
 pub returns-then-not-moved : goal.returns-then-not-moved
@@ -93,7 +94,7 @@ returns-then-not-moved g c =
     let polls = subst (λ q. PollsAll (queued came.connections.items came.opened.items at.queue.items) (queued now.connections.items now.opened.items q))
     (c.in_default.ensures.0 ∙ sym c.in_default.ensures.1) c.in_ok-moved.ensures in
     let same = unchanged-so _ _ _ _ c.len-known.result c.len-in-loop-opened.result c.len-among.result c.len-in-loop-opened-2.result c.has_changed.result (c.len-known.ensures ∙ at.connections.ok.0)
-    (c.len-in-loop-opened.ensures ∙ now.connections.ok.0) (c.len-among.ensures ∙ came.opened.ok.0) (c.len-in-loop-opened-2.ensures ∙ now.opened.ok.0) c.has_changed.ensures c.if-has_changed.false in
+    (c.len-in-loop-opened.ensures ∙ now.connections.ok.0 ∙ clients-long came.connections.items now.connections.items c.in_ok-moved.ensures.goes) (c.len-among.ensures ∙ came.opened.ok.0) (c.len-in-loop-opened-2.ensures ∙ now.opened.ok.0) c.has_changed.ensures c.if-has_changed.false in
     looks-yet _ c.args.most x y came.doors came.connections.items now.connections.items came.opened.items now.opened.items rest
     at.invariant c.in_ok-accept_all.ensures polls c.in_default.ensures.1
     (ap₂ (λ ls ns. closed_off c.args.most came.doors ls && list_all (owes_there ls) ns) (sym c.deref.ensures.value) (sym c.deref-in-loop-opened.ensures.value)
@@ -125,7 +126,7 @@ loop-opened-smaller g c =
     let polls = subst (λ q. PollsAll (queued came.connections.items came.opened.items at.queue.items) (queued now.connections.items now.opened.items q))
     (c.in_default.ensures.0 ∙ sym c.in_default.ensures.1) c.in_ok-moved.ensures in
     let same = unchanged-so _ _ _ _ c.len-known.result c.len-in-loop-opened.result c.len-among.result c.len-in-loop-opened-2.result c.has_changed.result (c.len-known.ensures ∙ at.connections.ok.0)
-    (c.len-in-loop-opened.ensures ∙ now.connections.ok.0) (c.len-among.ensures ∙ came.opened.ok.0) (c.len-in-loop-opened-2.ensures ∙ now.opened.ok.0) c.has_changed.ensures c.if-has_changed.false in
+    (c.len-in-loop-opened.ensures ∙ now.connections.ok.0 ∙ clients-long came.connections.items now.connections.items c.in_ok-moved.ensures.goes) (c.len-among.ensures ∙ came.opened.ok.0) (c.len-in-loop-opened-2.ensures ∙ now.opened.ok.0) c.has_changed.ensures c.if-has_changed.false in
     let fewer = left-same _ c.args.most x y came.doors came.connections.items now.connections.items came.opened.items now.opened.items rest
     at.invariant c.in_ok-accept_all.ensures polls same.0 same.1 in
     omega (arith, fewer, c.if-left-eq0.false)
