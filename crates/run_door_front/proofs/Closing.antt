@@ -21,14 +21,14 @@ use Rattle.run_door_front.proofs.Requests.{Serves, serves-on}
 -- ---- doors that were rested at
 
 -- what does not speak of rests stays
-map_rested : {A : Type 0} (f : ListenerTold → A) → ((p : ListenerTold) (n : ℕ) → f (record p { door = record p.door { rests = n } }) ≡ f p)
+pub map_rested : {A : Type 0} (f : ListenerTold → A) → ((p : ListenerTold) (n : ℕ) → f (record p { door = record p.door { rests = n } }) ≡ f p)
     → (ps qs : List ListenerTold) → AreRested ps qs → map f qs ≡ map f ps
 map_rested f same [] [] g = refl
 map_rested f same [] (q ∷ qs) g = absurd g
 map_rested f same (p ∷ ps) [] g = absurd g
 map_rested f same (p ∷ ps) (q ∷ qs) g = ap₂ (λ x xs. x ∷ xs) (ap f g.0 ∙ same p q.door.rests) (map_rested f same ps qs g.2)
 
-sum_rested : (f : ListenerTold → ℕ) → ((p : ListenerTold) (n : ℕ) → f (record p { door = record p.door { rests = n } }) ≡ f p)
+pub sum_rested : (f : ListenerTold → ℕ) → ((p : ListenerTold) (n : ℕ) → f (record p { door = record p.door { rests = n } }) ≡ f p)
     → (ps qs : List ListenerTold) → AreRested ps qs → sum_by f qs ≡ sum_by f ps
 sum_rested f same [] [] g = refl
 sum_rested f same [] (q ∷ qs) g = absurd g
@@ -89,16 +89,16 @@ module _ (IsMade : WireTold → Type 0) (parts : ProgramParts) (first : Sides) (
   abbrev pub later : Keeping
   later = record now { doors = doors; connections = links }
 
-  same_leads : leads_of later ≡ leads_of now
+  pub same_leads : leads_of later ≡ leads_of now
   same_leads = map_rested lead_of (λ p n. refl) now.doors doors rested
 
-  same_services : services_of later ≡ services_of now
+  pub same_services : services_of later ≡ services_of now
   same_services = map_rested service_of (λ p n. refl) now.doors doors rested
 
-  long : length links ≡ length now.connections
+  pub long : length links ≡ length now.connections
   long = clients-long now.connections links goes
 
-  none_later : HadNone now d → HadNone later d
+  pub none_later : HadNone now d → HadNone later d
   none_later n = record {
     pauses = n.pauses;
     each = all_paused_on d 0 n.pauses now.connections links goes n.each;
@@ -129,7 +129,7 @@ module _ (IsMade : WireTold → Type 0) (parts : ProgramParts) (first : Sides) (
           (waits_on now.connections links goes)
 
   module _ (f : HasExchanged IsMade parts first (sides_of now notes) d) where
-    serves : Serves IsMade parts (leads_of now) links f.all f.heard
+    pub serves : Serves IsMade parts (leads_of now) links f.all f.heard
     serves = serves-on IsMade (leads_of now) parts now.connections links f.all f.heard
         (links-on IsMade (leads_of now) now.connections now.connections links (links-same IsMade (leads_of now) now.connections) goes)
         (record { connections = f.connections; are = f.clients; doors = f.at_doors; taken = f.taken; came = f.came; answers = f.answers })

@@ -93,11 +93,11 @@ rounds_go n (l ∷ ls) (m ∷ ms) r = (r.0.goes, rounds_go n ls ms r.1)
 -- no text goes out
 none_writes : (ls : List ClientTold) → any_writing ls ≡ false → HaveDrained ls
 none_writes [] e = tt
-none_writes (l ∷ ls) e = at (is_writing l) refl e
+none_writes (l ∷ ls) e = at (λ h. none_writes ls h) (is_writing l) refl e
   where
-    at : (b : Bool) → is_writing l ≡ b → b || any_writing ls ≡ false → has_drained l × HaveDrained ls
-    at true is h = absurd (true≢false h)
-    at false is h = (inl (writes_not (stage_at l) is), none_writes ls h)
+    at : (any_writing ls ≡ false → HaveDrained ls) → (b : Bool) → is_writing l ≡ b → b || any_writing ls ≡ false → has_drained l × HaveDrained ls
+    at rest true is h = absurd (true≢false h)
+    at rest false is h = (inl (writes_not (stage_at l) is), rest h)
 
 -- or as many rounds were made as may be
 all_rounds : (n : ℕ) (ls ms : List ClientTold) → most_waits ≤ n → AllRounds n ls ms → HaveDrained ms
@@ -140,11 +140,11 @@ rested_by_first (p ∷ ps) = rested_one p ps
 
 rested_by_open : (ps : List ListenerTold) → AreRested ps (rested_open ps)
 rested_by_open [] = tt
-rested_by_open (p ∷ ps) = at (has_ended p.door)
+rested_by_open (p ∷ ps) = at (rested_by_open ps) (has_ended p.door)
   where
-    at : (b : Bool) → AreRested (p ∷ ps) (cond b (p ∷ rested_open ps) (rested_at p ∷ ps))
-    at true = (refl, not_fallen p.door.rests (2 ^ 64 - 1), rested_by_open ps)
-    at false = rested_one p ps
+    at : AreRested ps (rested_open ps) → (b : Bool) → AreRested (p ∷ ps) (cond b (p ∷ rested_open ps) (rested_at p ∷ ps))
+    at rest true = (refl, not_fallen p.door.rests (2 ^ 64 - 1), rest)
+    at rest false = rested_one p ps
 
 rested_after : (ps : List ListenerTold) → AreRested ps (after_rest ps)
 rested_after ps = at (list_all (λ (p : ListenerTold). has_ended p.door) ps)

@@ -159,7 +159,7 @@ module _ (IsMade : WireTold → Type 0) (leads : List Lead) where
   }
 
   -- its wire tells the same door
-  door_on : (m n : ClientTold) → ClientGoesOn m n → IsNewClient IsMade m → n.seen.line.door ≡ m.seen.line.door
+  pub door_on : (m n : ClientTold) → ClientGoesOn m n → IsNewClient IsMade m → n.seen.line.door ≡ m.seen.line.door
   door_on m n g h =
       let before : IsTalking h.first m.seen [] [] = h.talks in
       let after : IsTalking h.first n.seen [] [] = g.talks h.first [] [] h.talks in

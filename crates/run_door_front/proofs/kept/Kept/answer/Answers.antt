@@ -64,8 +64,8 @@ returns-in_default-clause-answered g c = λ n h.
 pub returns-in_default-clause-nobody : goal.returns-in_default-clause-nobody
 returns-in_default-clause-nobody g c = λ none. (refl, refl)
 
-pub invariant_of-self : goal.invariant_of-self
-invariant_of-self g c = λ unspent.
+pub invariant_of-self-2 : goal.invariant_of-self-2
+invariant_of-self-2 g c = λ unspent.
     let x = c.self.inside in
     let place = c.args.place in
     let number = c.in-Some.number in
