@@ -1,10 +1,9 @@
 -- What passed with a front, by what its doors and connections are once all that is due is written.
-use Rattle.std.proofs.Common.{◌≡◌, refl, sym, ap, ap₂, ◌∙◌, subst, arith, ℕ, suc, ◌+◌, ◌-◌, ◌^◌, ◌<◌, ◌≤◌, min, Bool, true, false, ◌&&◌, ◌||◌, inl, inr, List, [], ◌∷◌, length, map, nat_lt, nat_le, count_by}
+use Rattle.std.proofs.Common.{◌≡◌, refl, sym, ap, ap₂, ◌∙◌, subst, arith, ℕ, suc, ◌+◌, ◌-◌, ◌^◌, ◌<◌, ◌≤◌, min, Bool, true, ◌&&◌, ◌||◌, inl, inr, List, [], ◌∷◌, length, map, nat_lt, nat_le}
 use Rattle.std.specs.List.{list_all, list_any, sum_by}
 use Rattle.std.proofs.lemmas.List.Sums.{sum_by-cons}
 use Rattle.behaviour_tree.specs.Data.{ProgramParts}
 use Rattle.outside_doors.specs.Counts.{has_ended}
-use Rattle.run_theorem.specs.Calls.{most_postings}
 use Rattle.run_theorem.specs.Exchange.{Exchange}
 use Rattle.run_theorem.specs.RunConnections.{RunConnection}
 use Rattle.conn_future.specs.Stages.{IsOver}
@@ -12,7 +11,7 @@ use Rattle.outside_traits.specs.Told.{SinkTold, WireTold}
 use Rattle.run_door_front.specs.Keeping.{is_led, lead_of, leads_of, ListenerTold, ClientTold, Keeping, stage_at, services_of, rests_at, wires_to}
 use Rattle.run_door_front.specs.Exchanged.{Pause, for_answer, for_wire, at_end, WasPaused, WerePaused, waits_at, HadNone, Sides, sides_of, HasExchanged}
 use Rattle.run_door_front.specs.NextSteps.{HasNotFallen, ClientGoesOn, ClientsGoOn, wires_of, service_of, place_of}
-use Rattle.run_door_front.specs.Draining.{AreRested, Drains}
+use Rattle.run_door_front.specs.Draining.{AreRested}
 use Rattle.run_door_front.proofs.Doors.{sum_not_fallen, not_fallen}
 use Rattle.run_door_front.proofs.Links.{clients-long, links-same, links-on}
 use Rattle.run_door_front.proofs.Looking.{leads_on}

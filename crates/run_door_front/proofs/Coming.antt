@@ -1,5 +1,5 @@
 -- Doors and connections as they go on in one call.
-use Rattle.std.proofs.Common.{◌≡◌, refl, sym, ap, ap₂, ◌∙◌, subst, arith, ℕ, ◌+◌, ◌*◌, ◌-◌, ◌^◌, ◌<◌, ◌≤◌, Bool, true, false, ◌&&◌, ◌||◌, ◌⊎◌, inl, inr, List, [], ◌∷◌, ◌++◌, length, map, take, drop, set, get_or, Option, None, Some, nat_eq, nat_lt, count_by, IfSome, append_assoc, append-nil, length-append}
+use Rattle.std.proofs.Common.{◌≡◌, refl, sym, ap, ap₂, ◌∙◌, subst, arith, ℕ, ◌+◌, ◌-◌, ◌^◌, ◌<◌, ◌≤◌, Bool, true, false, ◌&&◌, ◌||◌, ◌⊎◌, inl, inr, List, [], ◌∷◌, ◌++◌, length, map, take, drop, set, get_or, Option, None, Some, nat_eq, nat_lt, IfSome, append_assoc, append-nil, length-append}
 use Rattle.std.proofs.lemmas.List.{map-append, length_push, length-drop, take_more, take_more_set, take_all, drop_more, drop-drop, drop-set-lt}
 use Rattle.std.proofs.lemmas.List.Sums.{sum_by-append}
 use Rattle.std.proofs.lemmas.List.Folds.{list_all-append}
@@ -11,9 +11,9 @@ use Rattle.outside_polling.specs.Polls.{PollTold}
 use Rattle.conn_future.specs.declared.stage.Stage.TheVariants as Stages
 use Rattle.conn_future.specs.Talking.{IsTalking}
 use Rattle.outside_traits.specs.Told.{WireTold}
-use Rattle.run_door_front.specs.Keeping.{is_led, lead_of, Lead, ListenerTold, ClientTold, stage_at, is_open, wires_to, most_open, IsOrdered}
+use Rattle.run_door_front.specs.Keeping.{is_led, lead_of, Lead, ListenerTold, ClientTold, stage_at, is_open, wires_to, most_open}
 use Rattle.run_door_front.specs.Exchanged.{IsNewLine}
-use Rattle.run_door_front.specs.NextSteps.{came_by, GoesOn, IsTried, wires_of, has_room, IsNewClient, AreNewLinks, CameInOrder, AllInTurn, LinksGoOn, doorway, TakesIn, Accepts}
+use Rattle.run_door_front.specs.NextSteps.{came_by, GoesOn, IsTried, wires_of, has_room, IsNewClient, AreNewLinks, CameInOrder, AllInTurn, doorway, TakesIn, Accepts}
 use Rattle.run_door_front.proofs.Entries.{nat_eq_same}
 use Rattle.run_door_front.proofs.Leading.{sum_one, plus_none, led-still, led-push, led-both}
 use Rattle.run_door_front.proofs.Doors.{goes-same, goes-further, all-push, tried-push, tried-since}

@@ -1,5 +1,5 @@
 -- The numbers of the connections that are open, and of those that ask.
-use Rattle.std.proofs.Common.{◌≡◌, refl, sym, ap, ap₂, ◌∙◌, subst, arith, ℕ, zero, suc, ◌+◌, ◌<◌, ◌≤◌, Bool, true, false, not, cond, ◌&&◌, ◌||◌, inl, inr, List, [], ◌∷◌, ◌++◌, length, Option, None, Some, count_by, slice_get, slice_set, nat_eq, length-append}
+use Rattle.std.proofs.Common.{◌≡◌, refl, sym, ap, ap₂, ◌∙◌, subst, arith, ℕ, zero, suc, ◌+◌, ◌<◌, Bool, true, false, not, cond, ◌&&◌, ◌||◌, inl, inr, List, [], ◌∷◌, ◌++◌, length, Some, count_by, slice_get, slice_set, nat_eq, length-append}
 use Rattle.std.specs.List.{filter, list_all, list_any}
 use Rattle.std.proofs.lemmas.Bool.{true≢false}
 use Rattle.std.proofs.lemmas.Option.{none-some, same_Some}
@@ -8,7 +8,7 @@ use Rattle.conn_future.specs.declared.stage.Stage.TheVariants as Stages
 use Rattle.conn_future.specs.Stages.{IsOver}
 use Rattle.run_door_front.specs.Keeping.{ClientTold, stage_at, is_open_at, is_open, asks_at, asks, owes, is_so, asks_there, open_from, most_open, IsOrdered}
 use Rattle.run_door_front.specs.NextSteps.{all_owing, newly, lined, IsQueue, ClientGoesOn, ClientsGoOn}
-use Rattle.run_door_front.proofs.Entries.{one_if, count_cons, count_yes, count_no, count_append, nat_eq_same, nat_eq_is, nat_eq_less, get_set_same, get_set_other}
+use Rattle.run_door_front.proofs.Entries.{one_if, count_cons, count_yes, count_no, count_append, nat_eq_same, nat_eq_is, get_set_same, get_set_other}
 
 -- ---- stages
 

@@ -1,8 +1,8 @@
 -- Connections are polled.
-use Rattle.std.proofs.Common.{◌≡◌, ◌≢◌, refl, sym, ap, ap₂, ◌∙◌, subst, arith, ℕ, zero, suc, ◌+◌, ◌-◌, ◌^◌, ◌<◌, ◌≤◌, min, Bool, true, false, not, cond, ◌&&◌, ◌||◌, ◌⊎◌, inl, inr, List, [], ◌∷◌, ◌++◌, length, take, get_or, Option, None, Some, count_by, slice_get, slice_set, nat_eq, append_assoc, append-nil}
+use Rattle.std.proofs.Common.{◌≡◌, ◌≢◌, refl, sym, ap, ◌∙◌, subst, arith, ℕ, zero, suc, ◌+◌, ◌-◌, ◌^◌, ◌<◌, ◌≤◌, min, Bool, true, false, not, cond, ◌&&◌, ◌||◌, ◌⊎◌, inl, inr, List, [], ◌∷◌, ◌++◌, length, take, get_or, Some, slice_get, slice_set, nat_eq, append_assoc, append-nil}
 use Rattle.std.specs.List.{filter, list_all, list_any}
 use Rattle.std.proofs.lemmas.Bool.{and_parts, and_from, true≢false}
-use Rattle.std.proofs.lemmas.Option.{none-some, same_Some, slice_get_within, slice_get_read, slice_get-get_or}
+use Rattle.std.proofs.lemmas.Option.{none-some, same_Some, slice_get_read, slice_get-get_or}
 use Rattle.std.proofs.lemmas.List.{take_more, take_all}
 use Rattle.std.proofs.lemmas.List.Folds.{list_any-append, list_all-append}
 use Rattle.outside_doors.specs.Counts.{added}
@@ -12,11 +12,11 @@ use Rattle.conn_future.specs.declared.stage.Stage.TheVariants as Stages
 use Rattle.conn_future.specs.Stages.{IsOver, IsUnanswered, IsMoving, IsAtRest}
 use Rattle.conn_future.specs.Talking.{TalksOn}
 use Rattle.run_door_front.specs.Keeping.{ClientTold, told_of_wire, stage_at, is_open, asks, asks_there, is_so, open_from, most_open, IsOrdered}
-use Rattle.run_door_front.specs.NextSteps.{IsPaused, IsPolled, newly, Lined, lined, IsPolledAt, ClientGoesOn, ClientsGoOn, LinesUp, IsQueue, IsPausedAt, Polls, queued, PollsAll, HasNotFallen}
-use Rattle.run_door_front.proofs.Entries.{nat_eq_same, nat_eq_is, get_set_same, get_set_other, length_set}
+use Rattle.run_door_front.specs.NextSteps.{IsPaused, IsPolled, newly, Lined, lined, IsPolledAt, ClientsGoOn, LinesUp, IsQueue, IsPausedAt, Polls, queued, PollsAll, HasNotFallen}
+use Rattle.run_door_front.proofs.Entries.{nat_eq_same, nat_eq_is, get_set_same, get_set_other}
 use Rattle.run_door_front.proofs.Doors.{not_fallen-same, not_fallen-added}
 use Rattle.run_door_front.proofs.Links.{clients-same, clients-further, clients-set, clients-at, clients-long}
-use Rattle.run_door_front.proofs.Lining.{closed_over, unasked, asks_is, open_long, opened_filter, opened_there, opened_within, queue-polled}
+use Rattle.run_door_front.proofs.Lining.{closed_over, unasked, opened_filter, opened_there, opened_within, queue-polled}
 
 -- ---- one connection
 

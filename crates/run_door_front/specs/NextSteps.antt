@@ -11,12 +11,10 @@ use Rattle.run_theorem.specs.declared.front.Next.TheVariants as next
 use Rattle.run_theorem.specs.Calls.{most_postings}
 use Rattle.run_theorem.specs.Texts.{posting_of}
 use Rattle.run_theorem.specs.RunConnections.{came_with}
-use Rattle.conn_future.specs.declared.stage.Stage.{Stage}
 use Rattle.conn_future.specs.declared.stage.Stage.TheVariants as Stages
 use Rattle.conn_future.specs.Stages.{IsOver, IsUnanswered, IsAtRest}
 use Rattle.conn_future.specs.Talking.{IsTalking, TalksOn}
 use Rattle.outside_traits.specs.Told.{WireTold}
-use Rattle.run_door_front.specs.declared.link.PendingReply.{PendingReply}
 use Rattle.run_door_front.specs.Keeping.{ListenerTold, ClientTold, Keeping, Lead, lead_of, is_led, rests_at, wires_to}
 use Rattle.run_door_front.specs.Keeping.{leads_to, AreLed, stage_at, is_open, asks, owes, asks_there, IsOrdered, closed_off}
 use Rattle.run_door_front.specs.Exchanged.{IsNewLine, most_open}

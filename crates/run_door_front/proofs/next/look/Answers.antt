@@ -5,7 +5,8 @@ use Rattle.run_theorem.specs.Calls.{most_postings}
 use Rattle.run_door_front.specs.Keeping.{closed_off, owes_there}
 use Rattle.run_door_front.specs.NextSteps.{queued, PollsAll, Goes, going, listing}
 use Rattle.run_door_front.proofs.Links.{clients-long}
-use Rattle.run_door_front.proofs.Looking.{goes-none, goes-accepts, goes-rests, turned, first-asks, looks-post, looks-end, looks-yet, changed-so, unchanged-so, left-less, left-same}
+use Rattle.run_door_front.proofs.Looking.{goes-none, goes-accepts, goes-rests, turned, first-asks, looks-post, looks-end, looks-yet}
+use Rattle.run_door_front.proofs.Looking.{changed-so, unchanged-so, left-less, left-same}
 use Rattle.run_door_front.proofs.next.look.Goals as goal
 
 pub loop-opened-init : goal.loop-opened-init
@@ -16,7 +17,8 @@ poll_all-requires g c =
     let x = going c.args.doors.now c.args.connections.now.items c.args.opened.now.items c.args.queue.now.items c.args.traffics.now.items in
     let at = c.loop-opened in
     let y = going at.doors at.connections.items at.opened.items at.queue.items at.traffics.items in
-    (goes-accepts _ c.args.most x y c.accept_all.new.doors c.accept_all.new.connections.items c.accept_all.new.opened.items at.invariant c.in_ok-accept_all.ensures).ordered c.requires
+    let came = c.accept_all.new in
+    (goes-accepts _ c.args.most x y came.doors came.connections.items came.opened.items at.invariant c.in_ok-accept_all.ensures).ordered c.requires
 
 pub hand_out-requires : goal.hand_out-requires
 hand_out-requires g c =
@@ -79,8 +81,11 @@ loop-opened-smaller-then-has_changed g c =
     let polls = subst (λ q. PollsAll (queued came.connections.items came.opened.items at.queue.items) (queued now.connections.items now.opened.items q))
     (c.in_default.ensures.0 ∙ sym c.in_default.ensures.1) c.in_ok-moved.ensures in
     let less = left-less _ c.args.most x y came.doors came.connections.items now.connections.items came.opened.items now.opened.items rest
-    at.invariant c.in_ok-accept_all.ensures polls (changed-so _ _ _ _ c.len-known.result c.len-in-loop-opened.result c.len-among.result c.len-in-loop-opened-2.result c.has_changed.result (c.len-known.ensures ∙ at.connections.ok.0)
-    (c.len-in-loop-opened.ensures ∙ now.connections.ok.0 ∙ clients-long came.connections.items now.connections.items c.in_ok-moved.ensures.goes) (c.len-among.ensures ∙ came.opened.ok.0) (c.len-in-loop-opened-2.ensures ∙ now.opened.ok.0) c.has_changed.ensures c.if-has_changed.true) in
+    at.invariant c.in_ok-accept_all.ensures polls
+    (changed-so _ _ _ _ c.len-known.result c.len-in-loop-opened.result c.len-among.result c.len-in-loop-opened-2.result
+    c.has_changed.result (c.len-known.ensures ∙ at.connections.ok.0)
+    (c.len-in-loop-opened.ensures ∙ now.connections.ok.0 ∙ clients-long came.connections.items now.connections.items c.in_ok-moved.ensures.goes)
+    (c.len-among.ensures ∙ came.opened.ok.0) (c.len-in-loop-opened-2.ensures ∙ now.opened.ok.0) c.has_changed.ensures c.if-has_changed.true) in
     omega (arith, less)
 
 pub returns-then-not-moved : goal.returns-then-not-moved
@@ -93,8 +98,10 @@ returns-then-not-moved g c =
     let rest = c.first_in_line.new.queue.items in
     let polls = subst (λ q. PollsAll (queued came.connections.items came.opened.items at.queue.items) (queued now.connections.items now.opened.items q))
     (c.in_default.ensures.0 ∙ sym c.in_default.ensures.1) c.in_ok-moved.ensures in
-    let same = unchanged-so _ _ _ _ c.len-known.result c.len-in-loop-opened.result c.len-among.result c.len-in-loop-opened-2.result c.has_changed.result (c.len-known.ensures ∙ at.connections.ok.0)
-    (c.len-in-loop-opened.ensures ∙ now.connections.ok.0 ∙ clients-long came.connections.items now.connections.items c.in_ok-moved.ensures.goes) (c.len-among.ensures ∙ came.opened.ok.0) (c.len-in-loop-opened-2.ensures ∙ now.opened.ok.0) c.has_changed.ensures c.if-has_changed.false in
+    let same = unchanged-so _ _ _ _ c.len-known.result c.len-in-loop-opened.result c.len-among.result c.len-in-loop-opened-2.result
+    c.has_changed.result (c.len-known.ensures ∙ at.connections.ok.0)
+    (c.len-in-loop-opened.ensures ∙ now.connections.ok.0 ∙ clients-long came.connections.items now.connections.items c.in_ok-moved.ensures.goes)
+    (c.len-among.ensures ∙ came.opened.ok.0) (c.len-in-loop-opened-2.ensures ∙ now.opened.ok.0) c.has_changed.ensures c.if-has_changed.false in
     looks-yet _ c.args.most x y came.doors came.connections.items now.connections.items came.opened.items now.opened.items rest
     at.invariant c.in_ok-accept_all.ensures polls c.in_default.ensures.1
     (ap₂ (λ ls ns. closed_off c.args.most came.doors ls && list_all (owes_there ls) ns) (sym c.deref.ensures.value) (sym c.deref-in-loop-opened.ensures.value)
@@ -125,8 +132,10 @@ loop-opened-smaller g c =
     let rest = c.first_in_line.new.queue.items in
     let polls = subst (λ q. PollsAll (queued came.connections.items came.opened.items at.queue.items) (queued now.connections.items now.opened.items q))
     (c.in_default.ensures.0 ∙ sym c.in_default.ensures.1) c.in_ok-moved.ensures in
-    let same = unchanged-so _ _ _ _ c.len-known.result c.len-in-loop-opened.result c.len-among.result c.len-in-loop-opened-2.result c.has_changed.result (c.len-known.ensures ∙ at.connections.ok.0)
-    (c.len-in-loop-opened.ensures ∙ now.connections.ok.0 ∙ clients-long came.connections.items now.connections.items c.in_ok-moved.ensures.goes) (c.len-among.ensures ∙ came.opened.ok.0) (c.len-in-loop-opened-2.ensures ∙ now.opened.ok.0) c.has_changed.ensures c.if-has_changed.false in
+    let same = unchanged-so _ _ _ _ c.len-known.result c.len-in-loop-opened.result c.len-among.result c.len-in-loop-opened-2.result
+    c.has_changed.result (c.len-known.ensures ∙ at.connections.ok.0)
+    (c.len-in-loop-opened.ensures ∙ now.connections.ok.0 ∙ clients-long came.connections.items now.connections.items c.in_ok-moved.ensures.goes)
+    (c.len-among.ensures ∙ came.opened.ok.0) (c.len-in-loop-opened-2.ensures ∙ now.opened.ok.0) c.has_changed.ensures c.if-has_changed.false in
     let fewer = left-same _ c.args.most x y came.doors came.connections.items now.connections.items came.opened.items now.opened.items rest
     at.invariant c.in_ok-accept_all.ensures polls same.0 same.1 in
     omega (arith, fewer, c.if-left-eq0.false)

@@ -1,5 +1,5 @@
 -- The connection is polled where it stands.
-use Rattle.std.proofs.Common.{◌≡◌, ◌++◌, sym, ap, ◌∙◌, arith, append-nil}
+use Rattle.std.proofs.Common.{◌++◌, sym, ap, ◌∙◌, arith, append-nil}
 use Rattle.run_door_front.proofs.PollingOne.{polled-at, newly-yes, newly-no}
 use Rattle.run_door_front.proofs.polling.poll_at.Goals as goal
 

@@ -1,5 +1,5 @@
 -- A poll of a connection goes as far as its wire goes.
-use Rattle.std.proofs.Common.{◌≡◌, ◌&&◌, not, refl, sym, ap, ◌∙◌}
+use Rattle.std.proofs.Common.{◌&&◌, not, refl, ap, ◌∙◌}
 use Rattle.conn_future.specs.Talking.{seen}
 use Rattle.run_door_front.specs.Keeping.{ClientTold, asks}
 use Rattle.run_door_front.proofs.PollingOne.{polled-pending, polled-over}
