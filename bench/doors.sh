@@ -7,10 +7,10 @@
 
 make_crate 'door_trials: outside_socket_doors outside_doors outside_polling outside_traits anyhow' <<'EOF'
 //! Follows the lines of its input at doors over sockets, and says what came of each: `open LOCATION`; `accept`, `rest`
-//! and `shut` of the door that was opened last; `read`, `write TEXT`, `fill COUNT` and `back` of the wire that came
-//! last, where the first three rest as long as it can move nothing; `doors`, what each door told that was shut:
-//! connections, waits and failures; `wires`, what was told of each wire that went back: `l` where a read failed, `c`
-//! where a write did, `e` where a read told the end; and `told`, where the waits are those of doors.
+//! and `shut` of the door that was opened last; `look`, `read`, `write TEXT`, `fill COUNT` and `back` of the wire that
+//! came last, of which `read`, `write` and `fill` rest as long as it can move nothing; `doors`, what each door told that
+//! was shut: connections, waits and failures; `wires`, what was told of each wire that went back: `l` where a read
+//! failed, `c` where a write did, `e` where a read told the end; and `told`, where the waits are those of doors.
 #![tactic(auto)]
 
 use outside_doors::{Door, Doors, Accept};
@@ -63,7 +63,8 @@ impl<H: Net + Clock + Eprint + Copy + Drop> House<H> {
             "accept" => self.accept(),
             "rest" => self.rest(),
             "shut" => self.shut(),
-            "read" => self.read(),
+            "look" => self.read(1),
+            "read" => self.read(u64::MAX),
             "write" => self.write(rest.as_bytes()),
             "fill" => self.fill(rest.parse().unwrap_or(0)),
             "back" => self.back(),
@@ -114,9 +115,10 @@ impl<H: Net + Clock + Eprint + Copy + Drop> House<H> {
         self.say("shut")
     }
 
-    fn read(&mut self) -> Result<String, AllocError> {
+    /// Tries so often to read, with a rest between.
+    fn read(&mut self, tries: u64) -> Result<String, AllocError> {
         let mut bytes = [0_u8; 64];
-        for _ in 0..u64::MAX {
+        for _ in 0..tries {
             let Some(wire) = self.wires.last_mut() else {
                 return self.say("no wire");
             };
@@ -125,11 +127,12 @@ impl<H: Net + Clock + Eprint + Copy + Drop> House<H> {
                     let text = std::str::from_utf8(&bytes[..count]).unwrap_or("?");
                     return format!(in self.alloc; "read {text}");
                 }
+                Ok(Ready::NotYet) if tries == 1 => {}
                 Ok(Ready::NotYet) => self.pause(),
                 Err(Failed) => return self.say("failed"),
             }
         }
-        self.say("nothing")
+        self.say("nothing yet")
     }
 
     fn write(&mut self, bytes: &[u8]) -> Result<String, AllocError> {

@@ -286,10 +286,43 @@ def rests(rows, house, port):
         guest.close()
 
 
-# What an accept may meet that says no more than that nobody has come yet: who came is gone, or can't be let in now.
-PASSING = [errno.ECONNABORTED, errno.ECONNRESET, errno.ENETDOWN, errno.ENETUNREACH, errno.EHOSTUNREACH,
-           errno.ETIMEDOUT, errno.ENONET, errno.EPROTO, errno.ENOPROTOOPT, errno.EOPNOTSUPP, errno.EHOSTDOWN,
-           errno.EPERM, errno.ENOMEM, errno.ENFILE, errno.EMFILE, errno.ENOBUFS]
+def readiness(rows, house, port):
+    """A rest does not last beside what came before it, and lasts beside what no read gives."""
+    guest = come(port)
+    rows.row("one more guest", house.say("accept"), "came")
+    rows.row("nothing of him yet", house.say("look"), "nothing yet")
+    for word in ["half", "more", "x" * 200]:
+        guest.sendall(word.encode())
+        _, took = house.timed("rest")
+        rows.time("a rest after bytes", took, 0, LATE)
+        said = [house.say("look") for _ in range(len(word) // 64 + 1)]
+        rows.row("what came before it", "".join(text.removeprefix("read ") for text in said), word)
+        rows.row("and no more", house.say("look"), "nothing yet")
+    for _ in range(5):
+        guest.send(b"!", socket.MSG_OOB)
+        time.sleep(0.05)
+        rows.row("an urgent byte is not read", house.say("look"), "nothing yet")
+        _, took = house.timed("rest")
+        rows.time("a rest after an urgent byte", took, REST - 0.01, REST + LATE)
+    guest.sendall(b"end")
+    guest.shutdown(socket.SHUT_WR)
+    _, took = house.timed("rest")
+    rows.time("a rest after the end", took, 0, LATE)
+    rows.row("what came last", house.say("look"), "read end")
+    rows.row("and the end", house.say("look"), "read ")
+    house.say("back")
+    guest.close()
+
+
+# What an accept may meet that says no more than that who came is gone.
+GONE = [errno.EINTR, errno.ECONNABORTED, errno.ECONNRESET, errno.ENETDOWN, errno.ENETUNREACH, errno.EHOSTUNREACH,
+        errno.ETIMEDOUT, errno.ENONET, errno.EPROTO, errno.ENOPROTOOPT, errno.EOPNOTSUPP, errno.EHOSTDOWN]
+
+# What says that who waits can't be let in now.
+WANTS = [errno.EPERM, errno.ENOMEM, errno.ENFILE, errno.EMFILE, errno.ENOBUFS]
+
+# How many in a row are passed over who are gone.
+MOST_GONE = 64
 
 # And what says that the listener is none.
 FAULTS = [errno.EBADF, errno.ENOTSOCK, errno.EINVAL, errno.EFAULT, errno.EACCES, errno.ENOSYS, errno.EIO]
@@ -297,25 +330,33 @@ FAULTS = [errno.EBADF, errno.ENOTSOCK, errno.EINVAL, errno.EFAULT, errno.EACCES,
 
 def failing_accepts(rows, program, preloaded):
     """Accepts that fail by each of these numbers."""
-    errors = [errno.ECONNABORTED] + [number for number in PASSING for _ in range(2)]
-    house = House(program, LD_PRELOAD=preloaded, ERRORS=" ".join(map(str, [errno.EINTR] + errors)))
+    wants = [number for number in WANTS for _ in range(2)]
+    errors = GONE + wants + GONE + [errno.ECONNABORTED] * MOST_GONE
+    house = House(program, LD_PRELOAD=preloaded, ERRORS=" ".join(map(str, errors)))
     port = free_port()
     house.say(f"open socket://127.0.0.1:{port}")
-    guest = come(port)
-    rows.row("one who has gone", house.say("accept"), "not yet")
-    for number in PASSING:
+    guests = [come(port) for _ in range(3)]
+    rows.row("one after those who are gone", house.say("accept"), "came")
+    for number in WANTS:
         name = errno.errorcode[number]
         rows.row(name, house.say("accept"), "not yet")
         _, took = house.timed("rest")
         rows.time(f"a rest after {name}", took, REST - 0.01, REST + LATE)
         rows.row(f"{name} again", house.say("accept"), "not yet")
     rows.row("who waited through all of it", house.say("accept"), "came")
+    rows.row("so many who are gone", house.say("accept"), "not yet")
+    _, took = house.timed("rest")
+    rows.time("a rest after so many", took, REST - 0.01, REST + LATE)
+    rows.row("who came after so many", house.say("accept"), "came")
+    rows.row("nobody more", house.say("accept"), "not yet")
     house.say("shut")
+    waits = len(wants) + 2
     rows.row("none of it is noted", len(house.noted()), 1)
-    rows.row("none was a failure", house.say("told"), f"doors 1 1 0 wires 1 0 0 0 waits {len(errors)} faults 0")
-    rows.row("the door tells so", house.say("doors"), f"1 {len(errors)} 0;")
+    rows.row("none was a failure", house.say("told"), f"doors 1 1 0 wires 3 0 0 0 waits {waits} faults 0")
+    rows.row("the door tells so", house.say("doors"), f"3 {waits} 0;")
     rows.row("it ends then", house.end(), 0)
-    guest.close()
+    for guest in guests:
+        guest.close()
     for number in FAULTS:
         house = House(program, LD_PRELOAD=preloaded, ERRORS=str(number))
         location = f"socket://127.0.0.1:{free_port()}"
@@ -337,10 +378,11 @@ def main(program, preloaded):
     one_door(rows, house, port)
     ill_guests(rows, house, port)
     rests(rows, house, port)
+    readiness(rows, house, port)
     places(rows, house, port)
     rows.row("the first door still stands", house.say("accept"), "not yet")
     house.say("shut")
-    rows.row("what is told", house.say("told"), "doors 5 5 0 wires 62 62 3 2 waits 5 faults 10")
+    rows.row("what is told", house.say("told"), "doors 5 5 0 wires 63 63 3 2 waits 5 faults 10")
     rows.row("the program ends", house.end(), 0)
     few_files(rows, program)
     failing_accepts(rows, program, preloaded)

@@ -25,7 +25,8 @@ pub(crate) struct Board {
     given: AtomicU64,
     looks: AtomicU64,
     now: AtomicU64,
-    /// How many rests there were, with one before the first, and how many places have something that is due since.
+    /// How many rests there were, with one before the first, and how much is due since: the places with something, and
+    /// that nobody new is to be let in.
     rests: AtomicU64,
     due: AtomicU64,
     is_closing: AtomicBool,
@@ -116,18 +117,21 @@ impl Board {
         }
     }
 
-    /// Notes that a socket of a place is called, so that nothing is due there.
+    /// Notes that a socket of a place is called, so that nothing is due there, unless another one waits at that place:
+    /// what was reported may be for that, which is not called yet.
     pub(crate) fn attend(&self, place: usize) {
         let Some(place) = self.places.get(place) else {
             return;
         };
-        if place.due.load(Ordering::SeqCst) == self.rests.load(Ordering::SeqCst) {
+        if place.waiting.load(Ordering::SeqCst) == 0
+            && place.due.load(Ordering::SeqCst) == self.rests.load(Ordering::SeqCst)
+        {
             place.due.store(0, Ordering::SeqCst);
             self.due.fetch_sub(1, Ordering::SeqCst);
         }
     }
 
-    /// Whether something is due at a place.
+    /// Whether something is due.
     pub(crate) fn is_due(&self) -> bool {
         self.due.load(Ordering::SeqCst) != 0
     }
@@ -163,8 +167,9 @@ impl Board {
         self.is_closing.load(Ordering::SeqCst)
     }
 
-    /// Notes that nobody new is to be let in any more.
+    /// Notes that nobody new is to be let in any more. Those who are called next are to hear it at once.
     pub(crate) fn close(&self) {
         self.is_closing.store(true, Ordering::SeqCst);
+        self.due.fetch_add(1, Ordering::SeqCst);
     }
 }

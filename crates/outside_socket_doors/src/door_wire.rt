@@ -121,7 +121,7 @@ impl<H: Net + Clock + Eprint + Copy + Drop> PollWire for DoorWire<H> {
     }
 
     fn close(&mut self) {
-        if let Some(line) = &mut self.line {
+        if let Some(line) = &self.line {
             line.shut();
         }
         self.line = None;

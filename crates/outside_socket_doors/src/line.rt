@@ -16,6 +16,9 @@ use std::rt::Clock;
 
 /// A socket whose reads and writes do not wait, and whose peer is waited for with patience: what can move nothing yet
 /// fails where its time is over. Where a call has found nothing the system is asked no more until the poll reports.
+///
+/// It has what comes reported, and room for more only while a write waits for that: else a peer that sends what no read
+/// gives, as an urgent byte, would have it reported that there is room, and so end one rest after the other.
 #[derive(Drop)]
 pub(crate) struct Line<H: Net + Clock + Eprint + Copy + Drop> {
     stream: TcpStream,
@@ -23,6 +26,7 @@ pub(crate) struct Line<H: Net + Clock + Eprint + Copy + Drop> {
     /// What had been reported when a read found that nothing more was there, and when a write found no room.
     emptied: Option<u64>,
     filled: Option<u64>,
+    awaits_room: bool,
     turn: Turn,
 }
 
@@ -31,13 +35,14 @@ impl<H: Net + Clock + Eprint + Copy + Drop> Line<H> {
     pub(crate) fn new(mut stream: TcpStream, seat: Seat<H>) -> io::Result<Line<H>> {
         // Where it fails, what is written in several pieces may go out later, and nothing else changes.
         let _ = stream.set_nodelay(true);
-        seat.enroll(&mut stream, Interest::READABLE | Interest::WRITABLE)?;
+        seat.enroll(&mut stream, Interest::READABLE)?;
         let turn = Turn::Idle(seat.now());
         Ok(Line {
             stream,
             seat,
             emptied: None,
             filled: None,
+            awaits_room: false,
             turn,
         })
     }
@@ -51,6 +56,7 @@ impl<H: Net + Clock + Eprint + Copy + Drop> Line<H> {
             return Ok(Ready::Done(0));
         }
         self.turn = self.turn.at_read(self.seat.now());
+        self.await_bytes();
         let Some(rings) = self.seat.news(self.emptied) else {
             return self.nothing_read();
         };
@@ -93,6 +99,7 @@ impl<H: Net + Clock + Eprint + Copy + Drop> Line<H> {
             Err(error) => {
                 self.filled = self.seat.mark_of(&error, rings);
                 if is_early(&error) {
+                    self.await_room();
                     self.nothing_yet()
                 } else {
                     Err(Failed)
@@ -102,10 +109,33 @@ impl<H: Net + Clock + Eprint + Copy + Drop> Line<H> {
     }
 
     /// Closes the socket both ways.
-    pub(crate) fn shut(&mut self) {
-        self.seat.attend();
+    pub(crate) fn shut(&self) {
         // A peer that has gone already makes it fail, which changes nothing.
         let _ = self.stream.shutdown(Shutdown::Both);
+    }
+
+    /// Has what comes be reported again, where room was. What came meanwhile is not known, so that the next read asks.
+    fn await_bytes(&mut self) {
+        if self.awaits_room {
+            self.emptied = None;
+            self.awaits_room = self
+                .seat
+                .enroll_anew(&mut self.stream, Interest::READABLE)
+                .is_err();
+        }
+    }
+
+    /// Has room for more be reported, in place of what comes. Where that can't be, the next write asks.
+    fn await_room(&mut self) {
+        if !self.awaits_room {
+            self.awaits_room = self
+                .seat
+                .enroll_anew(&mut self.stream, Interest::WRITABLE)
+                .is_ok();
+        }
+        if !self.awaits_room {
+            self.filled = None;
+        }
     }
 
     /// What a read answers that finds nothing.

@@ -14,6 +14,9 @@ use std::net::{Net, SocketAddr};
 use std::rt::Clock;
 use std::sync::Arc;
 
+/// How many in a row an accept passes over that came and are gone.
+const MOST_GONE: u32 = 64;
+
 /// A listener whose accept does not wait. Where nobody was there the system is asked no more until the poll reports.
 #[derive(Drop)]
 pub(crate) struct Listening<H: Net + Clock + Eprint + Copy + Drop> {
@@ -45,11 +48,23 @@ impl<H: Net + Clock + Eprint + Copy + Drop> Listening<H> {
         self.listener.local_addr()
     }
 
-    /// One accept, where somebody may be there.
+    /// An accept, where somebody may be there. Who came and is gone is passed over: of the next one nothing new may be
+    /// reported, so that a rest would last beside him.
     pub(crate) fn accept(&mut self) -> io::Result<TcpStream> {
         let Some(rings) = self.seat.news(self.emptied) else {
             return Err(io::Error::from(ErrorKind::WouldBlock));
         };
+        for _ in 0..MOST_GONE {
+            match self.accept_one(rings) {
+                Err(error) if self.is_of_one_gone(&error) => {}
+                accepted => return accepted,
+            }
+        }
+        Err(io::Error::from(ErrorKind::ConnectionAborted))
+    }
+
+    /// One accept, before which so much had been reported.
+    fn accept_one(&mut self, rings: u64) -> io::Result<TcpStream> {
         self.emptied = None;
         match self.listener.accept() {
             Ok((stream, _)) => Ok(stream),
@@ -58,6 +73,11 @@ impl<H: Net + Clock + Eprint + Copy + Drop> Listening<H> {
                 Err(error)
             }
         }
+    }
+
+    /// Whether the error of the last accept says that who came is gone, or that a signal came, and not that nobody waits.
+    fn is_of_one_gone(&self, error: &io::Error) -> bool {
+        self.emptied.is_none() && matches!(obstacle_of(error), Obstacle::Nobody)
     }
 
     /// The connection of an accept, or what stands in its way: also that the system has no room to report on it.

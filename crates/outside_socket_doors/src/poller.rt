@@ -87,6 +87,18 @@ impl<H: Net + Clock + Eprint + Copy + Drop> Poller<H> {
         self.registry.register(socket, Token(place), interests)
     }
 
+    /// Has this and nothing else be reported of a socket at its place from now on, also where it came before.
+    pub(crate) fn enroll_anew<S: Source>(
+        &self,
+        socket: &mut S,
+        place: usize,
+        interests: Interest,
+    ) -> io::Result<()>
+        ensures { S.keeps socket.old socket.new }
+    {
+        self.registry.reregister(socket, Token(place), interests)
+    }
+
     /// Asks the poll what is new, and waits for nothing.
     pub(crate) fn look(&self) {
         if let Some(mut watch) = self.watch.try_lock() {
@@ -95,7 +107,7 @@ impl<H: Net + Clock + Eprint + Copy + Drop> Poller<H> {
     }
 
     /// Rests until somebody is to be called: one whose last call has found nothing, and of whom something was reported
-    /// since. It lasts as long as a rest does at most, whatever is reported of others.
+    /// since, or all where the doors close. It lasts as long as a rest does at most, whatever is reported of others.
     pub(crate) fn rest(&self) {
         if !self.board.is_due() {
             if let Some(mut watch) = self.watch.try_lock() {
@@ -111,12 +123,11 @@ impl<H: Net + Clock + Eprint + Copy + Drop> Poller<H> {
 impl<H: Net + Clock + Eprint + Copy + Drop> Watch<H> {
     /// Waits until somebody is to be called or the doors close, for at most so long.
     fn wait(&mut self, board: &Board, most: Duration) {
-        let was_closing = board.is_closing();
         let mut left = most;
         for _ in 0..u64::MAX {
             let before = board.now();
             let is_new = self.ask(board, left);
-            if !is_new || board.is_due() || board.is_closing() != was_closing {
+            if !is_new || board.is_due() {
                 return;
             }
             left = left.saturating_sub(Duration::from_nanos(board.now().saturating_sub(before)));

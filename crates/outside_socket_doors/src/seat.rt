@@ -14,7 +14,10 @@ use std::sync::Arc;
 
 /// What a socket knows of what was reported to it: its place, how often a peer there had ended when it took the place,
 /// how often the poll had been asked when a call of it found nothing, and whether it waits for a report since.
-#[derive(Drop)]
+///
+/// Where a call has moved something, the next one asks the system too, and the socket waits for a report only since one
+/// has found nothing. The poll reports what is new and not what is there, so that a rest would else last beside bytes
+/// of which it was reported before.
 pub(crate) struct Seat<H: Net + Clock + Eprint + Copy + Drop> {
     poller: Arc<Poller<H>>,
     place: usize,
@@ -51,6 +54,17 @@ impl<H: Net + Clock + Eprint + Copy + Drop> Seat<H> {
         self.poller.enroll(socket, self.place, interests)
     }
 
+    /// Has this and nothing else of a socket be reported here from now on, also where it came before.
+    pub(crate) fn enroll_anew<S: Source>(
+        &self,
+        socket: &mut S,
+        interests: Interest,
+    ) -> io::Result<()>
+        ensures { S.keeps socket.old socket.new }
+    {
+        self.poller.enroll_anew(socket, self.place, interests)
+    }
+
     /// How often something was reported here, where that is more often than it had been at a call that found nothing.
     /// One who finds nothing twice makes the next look where nobody else has made one since.
     pub(crate) fn news(&mut self, mark: Option<u64>) -> Option<u64> {
@@ -72,12 +86,12 @@ impl<H: Net + Clock + Eprint + Copy + Drop> Seat<H> {
     }
 
     /// Notes that the socket is called, and waits for no report.
-    pub(crate) fn attend(&mut self) {
-        self.poller.board().attend(self.place);
+    fn attend(&mut self) {
         if self.is_waiting {
             self.is_waiting = false;
             self.poller.board().leave(self.place);
         }
+        self.poller.board().attend(self.place);
     }
 
     /// What had been reported to a call that came to an error: all that is to be known where it would have had to wait,
@@ -119,6 +133,20 @@ impl<H: Net + Clock + Eprint + Copy + Drop> Seat<H> {
     /// Whether nobody new is to be let in any more.
     pub(crate) fn is_closing(&self) -> bool {
         self.poller.board().is_closing()
+    }
+}
+
+/// Nobody waits at a seat that is given up.
+impl<H: Net + Clock + Eprint + Copy + Drop> Drop for Seat<H> {
+    fn drop(mut self) {
+        self.attend();
+        let Seat {
+            poller: _,
+            place: _,
+            ends: _,
+            seen: _,
+            is_waiting: _,
+        } = self;
     }
 }
 
