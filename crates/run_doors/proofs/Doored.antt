@@ -369,8 +369,3 @@ empty_so kept tally places ports connections traffics halted spent = record {
   halted = halted;
   spent = spent;
 }
-
--- a status by what it is of
-pub status_by : (a b c d e f s : Bool) → a ≡ b → c ≡ d → e ≡ f → status_of a (c || e) s ≡ status_of b (d || f) s
-status_by a b c d e f s i j k =
-    ap (λ x. status_of x (c || e) s) i ∙ ap (λ x. status_of b (x || e) s) j ∙ ap (λ x. status_of b (d || x) s) k

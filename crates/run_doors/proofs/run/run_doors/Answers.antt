@@ -1,13 +1,13 @@
 -- What a run over doors leaves, by its front and by what that kept.
-use Rattle.std.proofs.Common.{◌≡◌, [], refl, sym, ap, subst, ◌∙◌}
+use Rattle.std.proofs.Common.{◌≡◌, ◌||◌, [], refl, sym, ap, subst, ◌∙◌}
 use Rattle.behaviour_tree.specs.PartsView.{parts_of}
 use Rattle.run_theorem.specs.Ports.{doors_of}
 use Rattle.run_door_front.specs.Exchanged.{sides_of}
 use Rattle.run_theorem.specs.declared.ended.Ended.{Ended}
 use Rattle.std.specs.List.{items_where_true}
 use Rattle.run_theorem.specs.Theorem.{Task}
-use Rattle.run_doors.specs.Steps.{with_traffic}
-use Rattle.run_doors.proofs.Doored.{doored_by, Ends, empty_so, outside_of, status_by, within_so}
+use Rattle.run_doors.specs.Steps.{with_traffic, status_of}
+use Rattle.run_doors.proofs.Doored.{doored_by, Ends, empty_so, outside_of, within_so}
 use Rattle.run_doors.proofs.run.run_doors.Goals as goal
 
 pub new-front-requires : goal.new-front-requires
@@ -53,7 +53,8 @@ returns g c = λ source output.
     (record {
       back = record { traffic = c.in_ok-back.back.traffic; failed = c.in_ok-back.back.failed };
       closes = c.in_ok-back.ensures;
-      status = c.status_of-status.ensures ∙ status_by _ _ _ _ _ _ c.in_ok-finished.finished.spent c.halted-halted.ensures refl refl;
+      status = c.status_of-status.ensures
+          ∙ ap (λ b. status_of b (c.in_ok-ports.field-0.failed || c.in_ok-back.back.failed) c.in_ok-finished.finished.spent) c.halted-halted.ensures;
       report = c.with_traffic-report.ensures;
     }))
     source output was is c.in_ok-finished.ensures.trips _ _
