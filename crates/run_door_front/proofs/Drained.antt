@@ -169,20 +169,22 @@ draining-more n first doors later ls ms ns d w is = record {
   rounds = rounds-more n ls ms ns d.rounds w;
 }
 
-pub draining-end : (n : ℕ) (first doors : List ListenerTold) (ls ms ns : List ClientTold) (halted : Bool) → Draining n first doors ls ms → AreWritten ms ns
-    → any_writing ns ≡ false → Drains halted first doors ls ns
-draining-end n first doors ls ms ns halted d w none = record {
+pub draining-end : (n : ℕ) (first doors : List ListenerTold) (ls ms ns : List ClientTold) (halted : Bool) → halted ≡ false
+    → Draining n first doors ls ms → AreWritten ms ns → any_writing ns ≡ false → Drains halted first doors ls ns
+draining-end n first doors ls ms ns halted running d w none = record {
   doors = d.rested;
   connections = rounds_go (n + 1) ls ns (rounds-more n ls ms ns d.rounds w);
-  drained = λ running. none_writes ns none;
+  drained = λ _. none_writes ns none;
+  undone = λ stopped. absurd (true≢false (sym stopped ∙ running));
 }
 
-pub draining-through : (n : ℕ) (first doors : List ListenerTold) (ls ms : List ClientTold) (halted : Bool) → most_waits ≤ n → Draining n first doors ls ms
-    → Drains halted first doors ls ms
-draining-through n first doors ls ms halted h d = record {
+pub draining-through : (n : ℕ) (first doors : List ListenerTold) (ls ms : List ClientTold) (halted : Bool) → halted ≡ false → most_waits ≤ n
+    → Draining n first doors ls ms → Drains halted first doors ls ms
+draining-through n first doors ls ms halted running h d = record {
   doors = d.rested;
   connections = rounds_go n ls ms d.rounds;
-  drained = λ running. all_rounds n ls ms h d.rounds;
+  drained = λ _. all_rounds n ls ms h d.rounds;
+  undone = λ stopped. absurd (true≢false (sym stopped ∙ running));
 }
 
 -- a front that halted
@@ -191,6 +193,7 @@ draining-halted doors ls halted is = record {
   doors = rested-same doors;
   connections = clients-same ls;
   drained = λ running. absurd (true≢false (sym is ∙ running));
+  undone = λ _. (refl, refl);
 }
 
 -- ---- what is lent and comes back

@@ -52,8 +52,9 @@ AreRested (p ∷ ps) [] = ⊥
 AreRested (p ∷ ps) (q ∷ qs) = (q ≡ record p { door = record p.door { rests = q.door.rests } })
     × HasNotFallen p.door.rests q.door.rests × AreRested ps qs
 
--- Connections went on, with rests at doors, until what was due was written, unless the front halted.
+-- Connections went on, with rests at doors, until what was due was written; where the front halted nothing was done.
 pub record Drains (halted : Bool) (first later : List ListenerTold) (before now : List ClientTold) : Type 0 where
   pub doors : AreRested first later
   pub connections : ClientsGoOn before now
   pub drained : halted ≡ false → HaveDrained now
+  pub undone : halted ≡ true → (later ≡ first) × (now ≡ before)

@@ -1,5 +1,5 @@
 -- The order in which one worker answers has each posting; and where those are finished that are answered early.
-use Rattle.std.proofs.Common.{◌≡◌, ◌<◌, ◌≤◌, ℕ, zero, suc, ◌+◌, ◌-◌, Bool, true, false, ◌||◌, List, [], ◌∷◌, ◌++◌}
+use Rattle.std.proofs.Common.{◌≡◌, ◌<◌, ◌≤◌, ℕ, zero, suc, ◌+◌, Bool, true, false, ◌||◌, List, [], ◌∷◌, ◌++◌}
 use Rattle.std.proofs.Common.{refl, sym, ap, subst, ◌∙◌, cond, arith, nat_eq, flat_map, true≢false}
 use Rattle.std.specs.List.{filter, list_any}
 use Rattle.office_core.specs.declared.history.Entry.{Entry}

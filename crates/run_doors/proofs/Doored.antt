@@ -16,7 +16,7 @@ use Rattle.run_record.specs.Outside.{notes}
 use Rattle.run_record.specs.Postings.{posts_of}
 use Rattle.run_record.specs.Run.{Hands, alone, IsRun, IsSpent}
 use Rattle.run_theorem.specs.Lines.{noted_before, most_postings, IsPrefix}
-use Rattle.run_theorem.specs.Statuses.{Causes, Failed}
+use Rattle.run_theorem.specs.Statuses.{Failed}
 use Rattle.run_theorem.specs.Texts.{posting_of}
 use Rattle.outside_links.specs.Trips.{LinkTold}
 use Rattle.run_theorem.specs.Trips.{Travelled}

@@ -1,6 +1,6 @@
 -- How many wires and connections of a run lead to a service.
 use Rattle.std.proofs.Common.{◌≡◌, ℕ, ◌+◌, Bool, true, false, ◌&&◌, ◌||◌, Option, List, [], ◌∷◌, cond, map, count_by, nat_eq}
-use Rattle.std.proofs.Common.{refl, sym, ap, ap₂, ◌∙◌, true≢false}
+use Rattle.std.proofs.Common.{refl, sym, ap₂, ◌∙◌, true≢false}
 use Rattle.std.specs.List.{sum_by, list_any}
 use Rattle.outside_doors.specs.Counts.{DoorTold}
 use Rattle.std.proofs.lemmas.List.Sums.{sum_by-cons}

@@ -1,5 +1,5 @@
 -- Lists: what stands at a place, what holds of all or of one, and fronts.
-use Rattle.std.proofs.Common.{◌≡◌, ◌≢◌, ◌<◌, ◌≤◌, ℕ, zero, suc, ◌+◌, Bool, true, false, ◌&&◌, ◌||◌, List, [], ◌∷◌, ◌++◌}
+use Rattle.std.proofs.Common.{◌≡◌, ◌≢◌, ◌<◌, ◌≤◌, ℕ, zero, suc, Bool, true, false, ◌&&◌, ◌||◌, List, [], ◌∷◌, ◌++◌}
 use Rattle.std.proofs.Common.{refl, sym, ap, subst, ◌∙◌, arith, length, map, take, true≢false, Contains, get_or, append_assoc}
 use Rattle.std.proofs.Common.{None, Some, option_map, slice_get}
 use Rattle.std.specs.List.{list_all, list_any}

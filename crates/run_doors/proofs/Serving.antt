@@ -1,6 +1,6 @@
 -- What came on connections was served, by what passed between their front and a run.
-use Rattle.std.proofs.Common.{◌≡◌, ◌≢◌, ◌<◌, ◌≤◌, ℕ, zero, suc, Bool, true, false, List, [], ◌∷◌, length, map, take}
-use Rattle.std.proofs.Common.{refl, sym, ap, subst, ◌∙◌, arith, ◌⊎◌, inl, inr, ⊎_elim, true≢false, count_by, nat_eq, nat_lt}
+use Rattle.std.proofs.Common.{◌≡◌, ◌<◌, ◌≤◌, ℕ, zero, suc, true, false, List, [], ◌∷◌, length, map, take}
+use Rattle.std.proofs.Common.{refl, sym, ap, subst, ◌∙◌, arith, ⊎_elim, true≢false, count_by, nat_eq}
 use Rattle.std.proofs.Common.{Option, Some, option_map, slice_get, Contains}
 use Rattle.std.specs.List.{list_all, list_any, AllZip}
 use Rattle.behaviour_tree.specs.Data.{ProgramParts}

@@ -17,10 +17,10 @@ loop-round-preserved g c =
 pub returns-then-not-writes : goal.returns-then-not-writes
 returns-then-not-writes g c =
     draining-end c.loop-round._round c.args.doors.now c.loop-round.doors c.args.connections.now c.loop-round.connections
-    c.write_all.new.connections c.args.halted c.loop-round.invariant c.in_ok-writes.ensures.1
+    c.write_all.new.connections c.args.halted c.if-halted.false c.loop-round.invariant c.in_ok-writes.ensures.1
     (sym c.in_ok-writes.ensures.0 ∙ c.if-not-writes.true)
 
 pub returns : goal.returns
 returns g c =
     draining-through c.loop-round._round c.args.doors.now c.loop-round.doors c.args.connections.now c.loop-round.connections c.args.halted
-    (let test = c.loop-round-test.false in omega (arith, test)) c.loop-round.invariant
+    c.if-halted.false (let test = c.loop-round-test.false in omega (arith, test)) c.loop-round.invariant

@@ -6,7 +6,7 @@ use Rattle.run_door_front.specs.Exchanged.{sides_of}
 use Rattle.run_theorem.specs.declared.ended.Ended.{Ended}
 use Rattle.std.specs.List.{items_where_true}
 use Rattle.run_theorem.specs.Theorem.{Task}
-use Rattle.run_doors.specs.Steps.{with_traffic, status_of}
+use Rattle.run_doors.specs.Steps.{status_of}
 use Rattle.run_doors.proofs.Doored.{doored_by, Ends, empty_so, outside_of, within_so}
 use Rattle.run_doors.proofs.run.run_doors.Goals as goal
 
