@@ -21,7 +21,8 @@ use Rattle.conn_future.specs.Stages.{stage_of, IsOver}
 use Rattle.conn_future.specs.Talking.{IsTalking}
 use Rattle.outside_traits.specs.Told.{WireTold}
 use Rattle.run_door_front.specs.declared.link.PendingReply.{PendingReply}
-use Rattle.run_door_front.specs.Keeping.{ListenerTold, ClientTold, Keeping, services_of, places_of, leads_of, is_led, rests_at, no_more, AreLed}
+use Rattle.run_door_front.specs.Keeping.{ListenerTold, ClientTold, Keeping, services_of, places_of, leads_of, is_led}
+use Rattle.run_door_front.specs.Keeping.{rests_at, no_more, AreLed}
 
 -- the two sides of a front over doors: what it keeps, and the sink of its notes
 pub record Sides : Type 0 where
@@ -70,9 +71,10 @@ pub record IsHeard (parts : ProgramParts) (heard : List Told) (j : ℕ) (c : Cam
   pub place : told.place ≡ j
   pub sent : text ≡ Some (response_told parts c told.outcomes)
 
--- The request of a posting waits for its answer: it is the one that its connection owes an answer, behind all texts
+-- The request of a posting waits for its answer: it is the one that its connection owes an answer, after all texts
 -- that were told to it.
-pub record IsPending (links : List ClientTold) (j : ℕ) (a : Asked) (c : Came) (connection : RunConnection) : Type 0 where
+pub record IsPending (links : List ClientTold) (j : ℕ) (a : Asked) (c : Came) (connection : RunConnection)
+    : Type 0 where
   pub link : ClientTold
   pub there : slice_get links a.traffic ≡ Some link
   pub pending : link.pending ≡ Some (record { place = j; read = c.read })
@@ -122,8 +124,8 @@ pub record HadNoAnswer (d : Exchange) (k : ℕ) : Type 0 where
   pub last : suc asked.request ≡ count_by (is_of k) d.received.asked
   pub untold : list_any (λ (t : Told). nat_eq place t.place) (take d.received.seen d.sent.told) ≡ false
 
--- When the front was asked last, connection k paused so: its last request had no answer, its wire has answered that it can
--- move nothing yet, or it is over.
+-- When the front was asked last, connection k paused so: its last request had no answer, its wire has answered that it
+-- can move nothing yet, or it is over.
 abbrev pub WasPaused : Exchange → ℕ → Pause → ClientTold → Type 0
 WasPaused d k for_answer link = HadNoAnswer d k
 WasPaused d k for_wire link = 0 < link.waits
@@ -142,9 +144,9 @@ waits_at doors connections =
     sum_by (λ (p : ListenerTold). p.door.waits) doors + sum_by (λ (link : ClientTold). link.waits) connections
 
 -- The front had no posting: each connection waited for an answer, had a wire that could move nothing yet, or was over.
--- No connection can come any more, and each waited for an answer or was over; or at least as often as there was none in a
--- row was rested, at all doors, and so many as may be open waited for an answer, or doors and wires answered as often,
--- in all, that nobody has come and nothing moves yet.
+-- No connection can come any more, and each waited for an answer or was over; or at least as often as there was none
+-- in a row was rested, at all doors, and so many as may be open waited for an answer, or doors and wires answered as
+-- often, in all, that nobody has come and nothing moves yet.
 pub record HadNone (kept : Keeping) (d : Exchange) : Type 0 where
   pub pauses : List Pause
   pub each : WerePaused d 0 pauses kept.connections
@@ -159,11 +161,12 @@ GaveNone d = (d.received.ended ≡ true) ⊎ (0 < d.received.waits)
 
 -- ---- all of it
 
--- What a front over doors received and what was sent to it, since its sides were the first; its wires were made so. What
--- had been noted when it was asked last was taken by the sink of its notes. A door that failed counts as one at which
--- nobody comes any more, and a wire that failed ends its own connection alone, so that no failure of what is read is
--- counted here.
-pub record HasExchanged (IsMade : WireTold → Type 0) (parts : ProgramParts) (first now : Sides) (d : Exchange) : Type 0 where
+-- What a front over doors received and what was sent to it, since its sides were the first; its wires were made so.
+-- What had been noted when it was asked last was taken by the sink of its notes. A door that failed counts as one at
+-- which nobody comes any more, and a wire that failed ends its own connection alone, so that no failure of what is
+-- read is counted here.
+pub record HasExchanged (IsMade : WireTold → Type 0) (parts : ProgramParts) (first now : Sides) (d : Exchange)
+    : Type 0 where
   pub services : services_of now.kept ≡ services_of first.kept
   pub in_place : places_of now.kept ≡ places_of first.kept
   pub most : now.kept.most ≡ first.kept.most
@@ -172,7 +175,8 @@ pub record HasExchanged (IsMade : WireTold → Type 0) (parts : ProgramParts) (f
   pub clients : AreClients IsMade now.kept.connections connections
   pub came_in : sum_by (λ (p : ListenerTold). p.door.wires) now.kept.doors ≡ length now.kept.connections
   pub led : AreLed now.kept.doors now.kept.connections
-  pub at_doors : list_all (λ (v : RunConnection). list_any (is_led v.door v.service) (leads_of now.kept)) connections ≡ true
+  pub at_doors :
+      list_all (λ (v : RunConnection). list_any (is_led v.door v.service) (leads_of now.kept)) connections ≡ true
   pub accepted : length now.kept.connections ≤ now.kept.most
   pub all : Requests
   pub asked : all.asked ≡ d.received.asked

@@ -1,5 +1,6 @@
 -- How a front over doors comes to its next posting.
-use Rattle.std.specs.Prelude.{◌≡◌, ◌≢◌, ◌⊎◌, ℕ, ◌+◌, ◌-◌, ◌^◌, ◌≤◌, ◌<◌, min, Bool, true, false, not, ◌&&◌, ◌||◌, List}
+use Rattle.std.specs.Prelude.{◌≡◌, ◌≢◌, ◌⊎◌, ℕ, ◌+◌, ◌-◌, ◌^◌, ◌≤◌, ◌<◌, min, Bool, true, false, not, ◌&&◌, ◌||◌}
+use Rattle.std.specs.Prelude.{List}
 use Rattle.std.specs.Prelude.{[], ◌∷◌, ◌++◌, length, map, if◌then◌else◌, nat_eq}
 use Rattle.std.specs.Prelude.{nat_lt, count_by, slice_get, slice_set, Option, None, Some}
 use Rattle.std.specs.List.{list_all, list_any, sum_by}
@@ -16,7 +17,8 @@ use Rattle.conn_future.specs.Stages.{IsOver, IsUnanswered, IsAtRest}
 use Rattle.conn_future.specs.Talking.{IsTalking, TalksOn}
 use Rattle.outside_traits.specs.Told.{WireTold}
 use Rattle.run_door_front.specs.Keeping.{ListenerTold, ClientTold, Keeping, Lead, lead_of, is_led, rests_at, wires_to}
-use Rattle.run_door_front.specs.Keeping.{leads_to, AreLed, stage_at, is_open, asks, owes, asks_there, IsOrdered, closed_off}
+use Rattle.run_door_front.specs.Keeping.{leads_to, AreLed, stage_at, is_open, asks, owes, asks_there, IsOrdered}
+use Rattle.run_door_front.specs.Keeping.{closed_off}
 use Rattle.run_door_front.specs.Exchanged.{IsNewLine, most_open}
 
 -- ---- doors
@@ -174,7 +176,8 @@ pub record TakesIn (IsMade : WireTold → Type 0) (most : ℕ) (before now : Doo
   pub in_order : CameInOrder (map lead_of before.doors) more
   pub in_turn : AllInTurn before.doors now.doors more
   pub shut : has_room most (length before.connections) (length before.opened) ≡ false → more ≡ []
-  pub ordered : (queue : List ℕ) → IsOrdered before.connections before.opened queue → IsOrdered now.connections now.opened queue
+  pub ordered : (queue : List ℕ)
+      → IsOrdered before.connections before.opened queue → IsOrdered now.connections now.opened queue
   pub as_many : length now.opened ≡ length before.opened + length more
   pub fits : (length more ≡ 0) ⊎ (length now.connections ≤ most)
   pub wires : sum_by wires_of before.doors ≤ length before.connections
@@ -189,8 +192,8 @@ pub record Accepts (IsMade : WireTold → Type 0) (most : ℕ) (before now : Doo
 
 -- ---- connections are polled
 
--- Nothing comes of a connection for now, whose wire had waited so often before: a request of it has no answer yet, it is
--- over, or its wire could move nothing yet.
+-- Nothing comes of a connection for now, whose wire had waited so often before: a request of it has no answer yet, it
+-- is over, or its wire could move nothing yet.
 abbrev pub IsPaused : ℕ → ClientTold → Type 0
 IsPaused waits now = IsUnanswered (stage_at now) ⊎ (IsOver (stage_at now) ⊎ (added waits 1 ≤ now.waits))
 
@@ -352,7 +355,8 @@ pub record Goes (IsMade : WireTold → Type 0) (most : ℕ) (before now : Going)
   pub line : LinesUp before.connections before.queue now.queue
   pub ordered : IsOrdered before.connections before.opened before.queue → IsOrdered now.connections now.opened now.queue
   pub within : length before.connections ≤ most → length now.connections ≤ most
-  pub wires : sum_by wires_of before.doors ≡ length before.connections → sum_by wires_of now.doors ≡ length now.connections
+  pub wires : sum_by wires_of before.doors ≡ length before.connections
+      → sum_by wires_of now.doors ≡ length now.connections
   pub led : sum_by wires_of before.doors ≡ length before.connections
       → AreLed before.doors before.connections → AreLed now.doors now.connections
 
@@ -368,8 +372,8 @@ HavePaused [] (m ∷ ms) = HasPaused 0 m × HavePaused [] ms
 HavePaused (l ∷ ls) [] = ⊥
 HavePaused (l ∷ ls) (m ∷ ms) = HasPaused l.waits m × HavePaused ls ms
 
--- They went on, and nothing comes for now: no request is whole, nothing comes of any connection, and nobody comes at any
--- door, or there is no more room.
+-- They went on, and nothing comes for now: no request is whole, nothing comes of any connection, and nobody comes at
+-- any door, or there is no more room.
 pub record Rests (IsMade : WireTold → Type 0) (most : ℕ) (before now : Going) : Type 0 where
   pub goes : Goes IsMade most before now
   pub none : now.queue ≡ []

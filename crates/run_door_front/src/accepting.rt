@@ -19,8 +19,8 @@ use std::alloc::{AllocError, Global};
 /// The most connections that are open at once.
 const MOST_OPEN: usize = 1024;
 
-/// Takes in who comes at each door, in the order of the doors. After want of memory nothing is sent of the doors and the
-/// connections.
+/// Takes in who comes at each door, in the order of the doors. After want of memory nothing is sent of the doors and
+/// the connections.
 pub(crate) fn accept_all<D: Door + Drop>(
     alloc: Global,
     doors: &mut [Listener<D>],

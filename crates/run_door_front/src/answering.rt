@@ -3,7 +3,8 @@
 ghost use Rattle.std.specs.Prelude.{◌≡◌, true, false, ℕ, Ok, IfOk, MatchResult, slice_get};
 ghost use Rattle.behaviour_tree.specs.PartsView.{parts_of};
 ghost use Rattle.run_door_front.specs.Keeping.{owes as owes_answer};
-ghost use Rattle.run_door_front.specs.AnswerSteps.{told_of, owes as owing, is_pending as pending_at, awaited, awaited_at as one_awaited, Awaits, AwaitsNone};
+ghost use Rattle.run_door_front.specs.AnswerSteps.{told_of, owes as owing, is_pending as pending_at, awaited};
+ghost use Rattle.run_door_front.specs.AnswerSteps.{awaited_at as one_awaited, Awaits, AwaitsNone};
 ghost use Rattle.run_door_front.specs.AnswerSteps.{IsTextOf, HasTold, HasAnswered};
 
 use crate::kept::Kept;

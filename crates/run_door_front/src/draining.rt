@@ -15,8 +15,8 @@ use std::alloc::AllocError;
 const MOST_ROUNDS: u32 = 1_000_000;
 
 impl<D: Door + Drop> Kept<D> {
-    /// The doors and the connections, once all that is due is written, unless a wire can move nothing for too long. Where
-    /// the front halted nothing more is done.
+    /// The doors and the connections, once all that is due is written, unless a wire can move nothing for too long.
+    /// Where the front halted nothing more is done.
     pub fn into_drained(self) -> Result<(Vec<Listener<D>>, Vec<Client<D::W>>), AllocError>
         ensures { IfOk result (λ parts. Drains self.halted self.doors parts.0.items self.connections parts.1.items) }
     {

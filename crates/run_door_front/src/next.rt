@@ -1,5 +1,6 @@
 //! The next posting of a front over doors.
-ghost use Rattle.std.specs.Prelude.{◌≡◌, ◌&&◌, ◌||◌, ◌∷◌, [], nat_lt, true, false, IfOk, OnOk, IsErr, MatchOption, MatchResult};
+ghost use Rattle.std.specs.Prelude.{◌≡◌, ◌&&◌, ◌||◌, ◌∷◌, [], nat_lt, true, false, IfOk, OnOk, IsErr, MatchOption};
+ghost use Rattle.std.specs.Prelude.{MatchResult};
 ghost use Rattle.std.specs.List.{list_all};
 ghost use Rattle.outside_doors.specs.Counts.{has_ended};
 ghost use Rattle.run_door_front.specs.Keeping.{ListenerTold, IsOrdered, closed_off, owes_there};
@@ -19,8 +20,8 @@ use std::alloc::{AllocError, Global};
 const MOST_POSTINGS: usize = 4_294_967_295;
 
 impl<D: Door + Drop> Kept<D> {
-    /// The next posting, as a front gives it that this is lent to. After want of memory nothing is sent of what passed, and
-    /// no posting comes any more.
+    /// The next posting, as a front gives it that this is lent to. After want of memory nothing is sent of what
+    /// passed, and no posting comes any more.
     pub fn next_posting(&mut self, alloc: Global) -> Result<Next, AllocError>
         ensures looks { MatchResult result
             (λ next. (self.old.spent ≡ false) × (self.new.spent ≡ false)

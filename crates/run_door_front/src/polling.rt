@@ -4,7 +4,8 @@ ghost use Rattle.std.specs.List.{filter};
 ghost use Rattle.conn_future.specs.Stages.{stage_of};
 ghost use Rattle.conn_future.specs.declared.stage.Stage.TheVariants as Stages;
 ghost use Rattle.run_door_front.specs.Keeping.{IsOrdered, asks as asking, asks_there, is_open_there};
-ghost use Rattle.run_door_front.specs.NextSteps.{Answers, Hands, IsPolled, IsPolledAt, Polls, PollsAll, lined, queued, listing};
+ghost use Rattle.run_door_front.specs.NextSteps.{Answers, Hands, IsPolled, IsPolledAt, Polls, PollsAll, lined};
+ghost use Rattle.run_door_front.specs.NextSteps.{queued, listing};
 
 use crate::link::{Client, PendingReply};
 use conn_future::Stage;
