@@ -129,7 +129,7 @@ def clients():
             peer.sendall(post(TWICE))
             peer.close()
         row("behind twenty who reset", curl("-d", TWICE), ANSWER)
-        row("no descriptor is left", served.descriptors() <= 6, True)
+        row("no descriptor is left", served.descriptors() <= 8, True)
         row("it is still there", served.process.poll(), None)
         h2load(served)
         nginx()
@@ -189,7 +189,7 @@ def h2load(served):
     early.kill()
     early.wait()
     row("behind an h2load that was killed", curl("-d", TWICE), ANSWER)
-    row("it has left no descriptor", served.descriptors() <= 6, True)
+    row("it has left no descriptor", served.descriptors() <= 8, True)
 
 
 def wrk():
