@@ -22,7 +22,7 @@ use Rattle.outside_traits.specs.Told.{WireTold}
 use Rattle.run_door_front.specs.Keeping.{is_led, leads_of, lead_of, Lead, ListenerTold, ClientTold, Keeping, services_of, rests_at, is_open, owes, closed_off, AreLed}
 use Rattle.outside_traits.specs.Told.{SinkTold}
 use Rattle.run_door_front.specs.Exchanged.{most_open, is_for_answer, waits_at, Sides, sides_of, HadNone, GaveNone, HasSent, HasExchanged, MayHaveExchanged}
-use Rattle.run_door_front.specs.NextSteps.{HasNotFallen, service_of, place_of, wires_of, has_room, all_owing, listing, Hands, going_of, Goes, Rests, Ends, Posts, Looks}
+use Rattle.run_door_front.specs.NextSteps.{HasNotFallen, service_of, place_of, wires_of, has_room, all_owing, listing, Hands, going_of, Goes, Rests, Ends as EndsFront, Posts, Looks}
 use Rattle.run_door_front.proofs.Entries.{length_set, nat_eq_is}
 use Rattle.run_door_front.proofs.Doors.{services-same, places-same, leads-same, waits-on}
 use Rattle.run_door_front.proofs.Leading.{led-asked}
@@ -205,7 +205,7 @@ module _ (IsMade : WireTold → Type 0) (parts : ProgramParts) (first : Sides) (
       )
 
   -- nothing comes any more
-  over-so : d.sent.halted ≡ false → Ends IsMade before.most (going_of before) (going_of now)
+  over-so : d.sent.halted ≡ false → EndsFront IsMade before.most (going_of before) (going_of now)
       → After (HasExchanged IsMade parts first (sides_of now notes)) (Asks parts nexts.End d)
   over-so running e = (
     record { received = without 0 true; sent = d.sent },

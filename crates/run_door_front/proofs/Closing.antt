@@ -1,10 +1,9 @@
 -- What passed with a front, by what its doors and connections are once all that is due is written.
-use Rattle.std.proofs.Common.{◌≡◌, refl, sym, ap, ap₂, ◌∙◌, subst, arith, ℕ, suc, ◌+◌, ◌-◌, ◌^◌, ◌<◌, ◌≤◌, min, Bool, true, false, ◌&&◌, ◌||◌, inl, inr, List, [], ◌∷◌, length, map, nat_lt, nat_le, count_by}
+use Rattle.std.proofs.Common.{◌≡◌, refl, sym, ap, ap₂, ◌∙◌, subst, arith, ℕ, suc, ◌+◌, ◌-◌, ◌^◌, ◌<◌, ◌≤◌, min, Bool, true, ◌&&◌, ◌||◌, inl, inr, List, [], ◌∷◌, length, map, nat_lt, nat_le}
 use Rattle.std.specs.List.{list_all, list_any, sum_by}
 use Rattle.std.proofs.lemmas.List.Sums.{sum_by-cons}
 use Rattle.behaviour_tree.specs.Data.{ProgramParts}
 use Rattle.outside_doors.specs.Counts.{has_ended}
-use Rattle.run_theorem.specs.Calls.{most_postings}
 use Rattle.run_theorem.specs.Exchange.{Exchange}
 use Rattle.run_theorem.specs.RunConnections.{RunConnection}
 use Rattle.conn_future.specs.Stages.{IsOver}
@@ -12,7 +11,7 @@ use Rattle.outside_traits.specs.Told.{SinkTold, WireTold}
 use Rattle.run_door_front.specs.Keeping.{is_led, lead_of, leads_of, ListenerTold, ClientTold, Keeping, stage_at, services_of, rests_at, wires_to}
 use Rattle.run_door_front.specs.Exchanged.{Pause, for_answer, for_wire, at_end, WasPaused, WerePaused, waits_at, HadNone, Sides, sides_of, HasExchanged}
 use Rattle.run_door_front.specs.NextSteps.{HasNotFallen, ClientGoesOn, ClientsGoOn, wires_of, service_of, place_of}
-use Rattle.run_door_front.specs.Draining.{AreRested, Drains}
+use Rattle.run_door_front.specs.Draining.{AreRested}
 use Rattle.run_door_front.proofs.Doors.{sum_not_fallen, not_fallen}
 use Rattle.run_door_front.proofs.Links.{clients-long, links-same, links-on}
 use Rattle.run_door_front.proofs.Looking.{leads_on}
@@ -21,14 +20,14 @@ use Rattle.run_door_front.proofs.Requests.{Serves, serves-on}
 -- ---- doors that were rested at
 
 -- what does not speak of rests stays
-map_rested : {A : Type 0} (f : ListenerTold → A) → ((p : ListenerTold) (n : ℕ) → f (record p { door = record p.door { rests = n } }) ≡ f p)
+pub map_rested : {A : Type 0} (f : ListenerTold → A) → ((p : ListenerTold) (n : ℕ) → f (record p { door = record p.door { rests = n } }) ≡ f p)
     → (ps qs : List ListenerTold) → AreRested ps qs → map f qs ≡ map f ps
 map_rested f same [] [] g = refl
 map_rested f same [] (q ∷ qs) g = absurd g
 map_rested f same (p ∷ ps) [] g = absurd g
 map_rested f same (p ∷ ps) (q ∷ qs) g = ap₂ (λ x xs. x ∷ xs) (ap f g.0 ∙ same p q.door.rests) (map_rested f same ps qs g.2)
 
-sum_rested : (f : ListenerTold → ℕ) → ((p : ListenerTold) (n : ℕ) → f (record p { door = record p.door { rests = n } }) ≡ f p)
+pub sum_rested : (f : ListenerTold → ℕ) → ((p : ListenerTold) (n : ℕ) → f (record p { door = record p.door { rests = n } }) ≡ f p)
     → (ps qs : List ListenerTold) → AreRested ps qs → sum_by f qs ≡ sum_by f ps
 sum_rested f same [] [] g = refl
 sum_rested f same [] (q ∷ qs) g = absurd g
@@ -89,16 +88,16 @@ module _ (IsMade : WireTold → Type 0) (parts : ProgramParts) (first : Sides) (
   abbrev pub later : Keeping
   later = record now { doors = doors; connections = links }
 
-  same_leads : leads_of later ≡ leads_of now
+  pub same_leads : leads_of later ≡ leads_of now
   same_leads = map_rested lead_of (λ p n. refl) now.doors doors rested
 
-  same_services : services_of later ≡ services_of now
+  pub same_services : services_of later ≡ services_of now
   same_services = map_rested service_of (λ p n. refl) now.doors doors rested
 
-  long : length links ≡ length now.connections
+  pub long : length links ≡ length now.connections
   long = clients-long now.connections links goes
 
-  none_later : HadNone now d → HadNone later d
+  pub none_later : HadNone now d → HadNone later d
   none_later n = record {
     pauses = n.pauses;
     each = all_paused_on d 0 n.pauses now.connections links goes n.each;
@@ -129,7 +128,7 @@ module _ (IsMade : WireTold → Type 0) (parts : ProgramParts) (first : Sides) (
           (waits_on now.connections links goes)
 
   module _ (f : HasExchanged IsMade parts first (sides_of now notes) d) where
-    serves : Serves IsMade parts (leads_of now) links f.all f.heard
+    pub serves : Serves IsMade parts (leads_of now) links f.all f.heard
     serves = serves-on IsMade (leads_of now) parts now.connections links f.all f.heard
         (links-on IsMade (leads_of now) now.connections now.connections links (links-same IsMade (leads_of now) now.connections) goes)
         (record { connections = f.connections; are = f.clients; doors = f.at_doors; taken = f.taken; came = f.came; answers = f.answers })

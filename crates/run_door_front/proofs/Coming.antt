@@ -1,9 +1,9 @@
 -- Doors and connections as they go on in one call.
-use Rattle.std.proofs.Common.{◌≡◌, refl, sym, ap, ap₂, ◌∙◌, subst, arith, ℕ, ◌+◌, ◌*◌, ◌-◌, ◌^◌, ◌<◌, ◌≤◌, Bool, true, false, ◌&&◌, ◌||◌, ◌⊎◌, inl, inr, List, [], ◌∷◌, ◌++◌, length, map, take, drop, set, get_or, Option, None, Some, nat_eq, nat_lt, count_by, IfSome, append_assoc, append-nil, length-append}
+use Rattle.std.proofs.Common.{◌≡◌, refl, sym, ap, ap₂, ◌∙◌, subst, arith, ℕ, ◌+◌, ◌-◌, ◌^◌, ◌<◌, ◌≤◌, Bool, true, false, ◌&&◌, ◌||◌, ◌⊎◌, inl, inr, List, [], ◌∷◌, ◌++◌, length, map, take, drop, set, get_or, Option, None, Some, nat_eq, nat_lt, IfSome, append_assoc, append-nil, length-append}
 use Rattle.std.proofs.lemmas.List.{map-append, length_push, length-drop, take_more, take_more_set, take_all, drop_more, drop-drop, drop-set-lt}
 use Rattle.std.proofs.lemmas.List.Sums.{sum_by-append}
 use Rattle.std.proofs.lemmas.List.Folds.{list_all-append}
-use Rattle.std.proofs.lemmas.Bool.{and_from, and_parts, ltb-true, true≢false}
+use Rattle.std.proofs.lemmas.Bool.{and_from, and_parts, lt-ltb, ltb-true, true≢false}
 use Rattle.std.specs.List.{list_all, sum_by}
 use Rattle.outside_doors.specs.Counts.{added}
 use Rattle.outside_doors.specs.Attempts.{ComesAt, IsFresh}
@@ -11,13 +11,14 @@ use Rattle.outside_polling.specs.Polls.{PollTold}
 use Rattle.conn_future.specs.declared.stage.Stage.TheVariants as Stages
 use Rattle.conn_future.specs.Talking.{IsTalking}
 use Rattle.outside_traits.specs.Told.{WireTold}
-use Rattle.run_door_front.specs.Keeping.{is_led, lead_of, Lead, ListenerTold, ClientTold, stage_at, is_open, wires_to, most_open, IsOrdered}
+use Rattle.run_door_front.specs.Keeping.{is_led, lead_of, Lead, ListenerTold, ClientTold, stage_at, is_open, wires_to, most_open}
 use Rattle.run_door_front.specs.Exchanged.{IsNewLine}
-use Rattle.run_door_front.specs.NextSteps.{came_by, GoesOn, IsTried, wires_of, has_room, IsNewClient, AreNewLinks, CameInOrder, LinksGoOn, doorway, TakesIn, Accepts}
+use Rattle.run_door_front.specs.NextSteps.{came_by, GoesOn, IsTried, wires_of, has_room, IsNewClient, AreNewLinks, CameInOrder, AllInTurn, doorway, TakesIn, Accepts}
 use Rattle.run_door_front.proofs.Entries.{nat_eq_same}
 use Rattle.run_door_front.proofs.Leading.{sum_one, plus_none, led-still, led-push, led-both}
 use Rattle.run_door_front.proofs.Doors.{goes-same, goes-further, all-push, tried-push, tried-since}
 use Rattle.run_door_front.proofs.Links.{no_room-more, new-append, new-among, any-left, any-right}
+use Rattle.run_door_front.proofs.InTurn.{turns-push, turns-last, turns-append, turns-on}
 use Rattle.run_door_front.proofs.Lining.{ordered-push}
 
 -- ---- a new connection
@@ -103,6 +104,8 @@ module _ (IsMade : WireTold → Type 0) (most : ℕ) where
     grown = sym (append-nil links);
     fresh = tt;
     in_order = order_of (lead_of p) [] refl;
+    in_turn = tt;
+    shut = λ none. refl;
     ordered = λ queue o. o;
     as_many = plus_none (length opened);
     fits = inl refl;
@@ -125,6 +128,10 @@ module _ (IsMade : WireTold → Type 0) (most : ℕ) where
         (list_all-append (λ link. came_by link (lead_of p)) t.more (l ∷ [])
         ∙ and_from (list_all (λ link. came_by link (lead_of p)) t.more) (came_by l (lead_of p) && true) (order_one (lead_of p) t.more t.in_order)
         (and_from (came_by l (lead_of p)) true (came-there p l door to) refl));
+    in_turn = turns-append (p ∷ []) (r ∷ []) t.more (l ∷ []) (turns-on (p ∷ []) (q ∷ []) (r ∷ []) t.more (g, tt) t.in_turn) (inl (came-there p l door to), tt);
+    shut = λ none. absurd (true≢false (sym (and_from (nat_lt (length now) most) (nat_lt (length among) most_open)
+        (lt-ltb (length now) most room) (lt-ltb (length among) most_open few))
+        ∙ no_room-more most (length links) (length now) (length opened) (length among) longer wider none));
     ordered = λ queue o. ordered-push now among queue l reads few (t.ordered queue o);
     as_many =
         let long = length_push among (length now) in
@@ -142,6 +149,12 @@ module _ (IsMade : WireTold → Type 0) (most : ℕ) where
     led = λ h n. led-push n p q r t.more l g.service (to ∙ sym t.goes.0.service) (one_wire h) (t.led h n);
   }
     where
+      longer : length links ≤ length now
+      longer = let grown = ap length t.grown ∙ length-append links t.more in omega (arith, grown)
+
+      wider : length opened ≤ length among
+      wider = let grown = t.as_many in omega (arith, grown)
+
       no_stop : (n : ℕ) → n < 2 ^ 32 → added n 1 ≡ n + 1
       no_stop n h = omega arith
 
@@ -180,6 +193,8 @@ module _ (IsMade : WireTold → Type 0) (most : ℕ) where
     grown = t.grown;
     fresh = t.fresh;
     in_order = t.in_order;
+    in_turn = turns-on (p ∷ []) (q ∷ []) (r ∷ []) t.more (g, tt) t.in_turn;
+    shut = t.shut;
     ordered = t.ordered;
     as_many = t.as_many;
     fits = t.fits;
@@ -197,6 +212,8 @@ module _ (IsMade : WireTold → Type 0) (most : ℕ) where
       grown = sym (append-nil links);
       fresh = tt;
       in_order = refl;
+      in_turn = tt;
+      shut = λ none. refl;
       ordered = λ queue o. o;
       as_many = plus_none (length opened);
       fits = inl refl;
@@ -225,6 +242,9 @@ module _ (IsMade : WireTold → Type 0) (most : ℕ) where
               b.takes.more b.takes.fresh));
           in_order = subst (λ ss. CameInOrder ss (a.takes.more ++ b.takes.more)) (sym all)
               (order_more (map lead_of ps) (lead_of p) a.takes.more b.takes.more a.takes.in_order (order_one (lead_of p) b.takes.more b.takes.in_order));
+          in_turn = turns-append (ps ++ p ∷ []) (qs ++ q ∷ []) a.takes.more b.takes.more (turns-push ps qs p q a.takes.more a.takes.in_turn) newest;
+          shut = λ none. ap₂ (λ ls ms. ls ++ ms) (a.takes.shut none)
+              (b.takes.shut (no_room-more most (length links) (length mid) (length opened) (length among) long_first wide_first none));
           ordered = λ queue o. b.takes.ordered queue (a.takes.ordered queue o);
           as_many =
               let one = a.takes.as_many in
@@ -250,6 +270,19 @@ module _ (IsMade : WireTold → Type 0) (most : ℕ) where
         ];
       }
     where
+      -- who came at the last door
+      newest : AllInTurn (ps ++ p ∷ []) (qs ++ q ∷ []) b.takes.more
+      newest = elim a.tried [
+        | inl none ↦ subst (AllInTurn (ps ++ p ∷ []) (qs ++ q ∷ [])) (sym (b.takes.shut none)) tt
+        | inr before ↦ turns-last ps qs p q b.takes.more before (order_one (lead_of p) b.takes.more b.takes.in_order)
+      ]
+
+      long_first : length links ≤ length mid
+      long_first = let grown = ap length a.takes.grown ∙ length-append links a.takes.more in omega (arith, grown)
+
+      wide_first : length opened ≤ length among
+      wide_first = let grown = a.takes.as_many in omega (arith, grown)
+
       longer : length mid ≤ length now
       longer = let grown = ap length b.takes.grown ∙ length-append mid b.takes.more in omega (arith, grown)
 

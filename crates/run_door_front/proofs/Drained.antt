@@ -1,5 +1,5 @@
 -- What is due is written.
-use Rattle.std.proofs.Common.{◌≡◌, ◌≢◌, refl, sym, ap, ap₂, ◌∙◌, subst, arith, ℕ, zero, suc, ◌+◌, ◌-◌, ◌^◌, ◌<◌, ◌≤◌, min, Bool, true, false, cond, ◌||◌, inl, inr, List, [], ◌∷◌, ◌++◌, length, take, drop, set, get_or}
+use Rattle.std.proofs.Common.{◌≡◌, ◌≢◌, refl, sym, ap, ap₂, ◌∙◌, subst, arith, ℕ, ◌+◌, ◌-◌, ◌^◌, ◌<◌, ◌≤◌, min, Bool, true, false, cond, ◌||◌, inl, inr, List, [], ◌∷◌, ◌++◌, length, take, drop, set, get_or}
 use Rattle.std.specs.List.{list_all}
 use Rattle.std.proofs.lemmas.Bool.{true≢false}
 use Rattle.std.proofs.lemmas.List.{length-drop, take_more, take_more_set, take_all, drop_more, drop-drop, drop-set-lt}
@@ -8,7 +8,7 @@ use Rattle.outside_doors.specs.Counts.{added, has_ended}
 use Rattle.run_theorem.specs.Lines.{most_waits}
 use Rattle.conn_future.specs.declared.stage.Stage.{Stage}
 use Rattle.conn_future.specs.declared.stage.Stage.TheVariants as Stages
-use Rattle.run_door_front.specs.Keeping.{ListenerTold, ClientTold, stage_at}
+use Rattle.run_door_front.specs.Keeping.{ListenerTold, ClientTold, Keeping, stage_at}
 use Rattle.run_door_front.specs.NextSteps.{ClientGoesOn, ClientsGoOn, IsPaused, IsPolled, rested_at, rested_first, rested_open, after_rest}
 use Rattle.run_door_front.specs.Draining.{writes_at, is_writing, any_writing, WritesOn, AreWritten, has_drained, HaveDrained, AreRested, Drains}
 use Rattle.run_door_front.proofs.Doors.{not_fallen, not_fallen-added, fallen_further}
@@ -93,11 +93,11 @@ rounds_go n (l ∷ ls) (m ∷ ms) r = (r.0.goes, rounds_go n ls ms r.1)
 -- no text goes out
 none_writes : (ls : List ClientTold) → any_writing ls ≡ false → HaveDrained ls
 none_writes [] e = tt
-none_writes (l ∷ ls) e = at (is_writing l) refl e
+none_writes (l ∷ ls) e = at (λ h. none_writes ls h) (is_writing l) refl e
   where
-    at : (b : Bool) → is_writing l ≡ b → b || any_writing ls ≡ false → has_drained l × HaveDrained ls
-    at true is h = absurd (true≢false h)
-    at false is h = (inl (writes_not (stage_at l) is), none_writes ls h)
+    at : (any_writing ls ≡ false → HaveDrained ls) → (b : Bool) → is_writing l ≡ b → b || any_writing ls ≡ false → has_drained l × HaveDrained ls
+    at rest true is h = absurd (true≢false h)
+    at rest false is h = (inl (writes_not (stage_at l) is), rest h)
 
 -- or as many rounds were made as may be
 all_rounds : (n : ℕ) (ls ms : List ClientTold) → most_waits ≤ n → AllRounds n ls ms → HaveDrained ms
@@ -140,11 +140,11 @@ rested_by_first (p ∷ ps) = rested_one p ps
 
 rested_by_open : (ps : List ListenerTold) → AreRested ps (rested_open ps)
 rested_by_open [] = tt
-rested_by_open (p ∷ ps) = at (has_ended p.door)
+rested_by_open (p ∷ ps) = at (rested_by_open ps) (has_ended p.door)
   where
-    at : (b : Bool) → AreRested (p ∷ ps) (cond b (p ∷ rested_open ps) (rested_at p ∷ ps))
-    at true = (refl, not_fallen p.door.rests (2 ^ 64 - 1), rested_by_open ps)
-    at false = rested_one p ps
+    at : AreRested ps (rested_open ps) → (b : Bool) → AreRested (p ∷ ps) (cond b (p ∷ rested_open ps) (rested_at p ∷ ps))
+    at rest true = (refl, not_fallen p.door.rests (2 ^ 64 - 1), rest)
+    at rest false = rested_one p ps
 
 rested_after : (ps : List ListenerTold) → AreRested ps (after_rest ps)
 rested_after ps = at (list_all (λ (p : ListenerTold). has_ended p.door) ps)
@@ -192,6 +192,19 @@ draining-halted doors ls halted is = record {
   connections = clients-same ls;
   drained = λ running. absurd (true≢false (sym is ∙ running));
 }
+
+-- ---- what is lent and comes back
+
+-- the doors and the connections that come back are those that were lent
+pub drains-back : (before told : Keeping) (lent later back : List ListenerTold) (given now kept : List ClientTold) → told ≡ before → lent ≡ told.doors
+    → given ≡ told.connections → back ≡ later → kept ≡ now → Drains told.halted lent later given now
+    → Drains before.halted before.doors back before.connections kept
+drains-back before told lent later back given now kept same lent_is given_is back_is kept_is drains =
+    subst (λ (k : Keeping). Drains k.halted k.doors back k.connections kept) same
+    (subst (λ ps. Drains told.halted ps back told.connections kept) lent_is
+    (subst (λ ls. Drains told.halted lent back ls kept) given_is
+    (subst (λ ps. Drains told.halted lent ps given kept) (sym back_is)
+    (subst (λ ls. Drains told.halted lent later given ls) (sym kept_is) drains))))
 
 -- ---- a loop over the connections
 

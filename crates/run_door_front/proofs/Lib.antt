@@ -7,8 +7,9 @@ pub mod Leading
 pub mod Doors
 pub mod Resting
 pub mod Links
+pub mod InTurn
 pub mod Lining
-pub mod Polling
+pub mod PollingOne
 pub mod Coming
 pub mod Looking
 pub mod Handing

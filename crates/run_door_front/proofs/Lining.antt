@@ -1,5 +1,5 @@
 -- The numbers of the connections that are open, and of those that ask.
-use Rattle.std.proofs.Common.{◌≡◌, refl, sym, ap, ap₂, ◌∙◌, subst, arith, ℕ, zero, suc, ◌+◌, ◌<◌, ◌≤◌, Bool, true, false, not, cond, ◌&&◌, ◌||◌, inl, inr, List, [], ◌∷◌, ◌++◌, length, Option, None, Some, count_by, slice_get, slice_set, nat_eq, length-append}
+use Rattle.std.proofs.Common.{◌≡◌, refl, sym, ap, ap₂, ◌∙◌, subst, arith, ℕ, zero, suc, ◌+◌, ◌<◌, Bool, true, false, not, cond, ◌&&◌, ◌||◌, inl, inr, List, [], ◌∷◌, ◌++◌, length, Some, count_by, slice_get, slice_set, nat_eq, length-append}
 use Rattle.std.specs.List.{filter, list_all, list_any}
 use Rattle.std.proofs.lemmas.Bool.{true≢false}
 use Rattle.std.proofs.lemmas.Option.{none-some, same_Some}
@@ -8,7 +8,7 @@ use Rattle.conn_future.specs.declared.stage.Stage.TheVariants as Stages
 use Rattle.conn_future.specs.Stages.{IsOver}
 use Rattle.run_door_front.specs.Keeping.{ClientTold, stage_at, is_open_at, is_open, asks_at, asks, owes, is_so, asks_there, open_from, most_open, IsOrdered}
 use Rattle.run_door_front.specs.NextSteps.{all_owing, newly, lined, IsQueue, ClientGoesOn, ClientsGoOn}
-use Rattle.run_door_front.proofs.Entries.{one_if, count_cons, count_yes, count_no, count_append, nat_eq_same, nat_eq_is, nat_eq_less, get_set_same, get_set_other}
+use Rattle.run_door_front.proofs.Entries.{one_if, count_cons, count_yes, count_no, count_append, nat_eq_same, nat_eq_is, get_set_same, get_set_other}
 
 -- ---- stages
 
@@ -65,17 +65,16 @@ front n = omega arith
 -- there are as many
 pub open_long : (n : ℕ) (ls : List ClientTold) → length (open_from n ls) ≡ count_by is_open ls
 open_long n [] = refl
-open_long n (l ∷ ls) = at (is_open l) refl ∙ sym (count_cons is_open l ls)
+open_long n (l ∷ ls) = at (open_long (suc n) ls) (is_open l) refl ∙ sym (count_cons is_open l ls)
   where
-    at : (b : Bool) → is_open l ≡ b → length (cond (is_open l) (n ∷ open_from (suc n) ls) (open_from (suc n) ls)) ≡ one_if (is_open l) + count_by is_open ls
-    at true e =
-        let rest = open_long (suc n) ls in
+    at : length (open_from (suc n) ls) ≡ count_by is_open ls → (b : Bool) → is_open l ≡ b
+        → length (cond (is_open l) (n ∷ open_from (suc n) ls) (open_from (suc n) ls)) ≡ one_if (is_open l) + count_by is_open ls
+    at rest true e =
         ap (λ b. length (cond b (n ∷ open_from (suc n) ls) (open_from (suc n) ls))) e ∙ ap suc rest ∙ sym (ap (λ (b : Bool). one_if b + count_by is_open ls) e ∙ one)
       where
         one : 1 + count_by is_open ls ≡ suc (count_by is_open ls)
         one = omega arith
-    at false e =
-        let rest = open_long (suc n) ls in
+    at rest false e =
         ap (λ b. length (cond b (n ∷ open_from (suc n) ls) (open_from (suc n) ls))) e ∙ rest ∙ sym (ap (λ (b : Bool). one_if b + count_by is_open ls) e ∙ none)
       where
         none : 0 + count_by is_open ls ≡ count_by is_open ls
@@ -84,34 +83,35 @@ open_long n (l ∷ ls) = at (is_open l) refl ∙ sym (count_cons is_open l ls)
 -- one more that is open stands at their end
 pub open_push : (n : ℕ) (ls : List ClientTold) (l : ClientTold) → is_open l ≡ true → open_from n (ls ++ l ∷ []) ≡ open_from n ls ++ (n + length ls) ∷ []
 open_push n [] l e = ap (λ b. cond b (n ∷ []) []) e ∙ ap (λ k. k ∷ []) (sym (start n))
-open_push n (x ∷ ls) l e = at (is_open x)
+open_push n (x ∷ ls) l e =
+    at (open_push (suc n) ls l e ∙ ap (λ k. open_from (suc n) ls ++ k ∷ []) (step n (length ls))) (is_open x)
   where
-    rest : open_from (suc n) (ls ++ l ∷ []) ≡ open_from (suc n) ls ++ (n + suc (length ls)) ∷ []
-    rest = open_push (suc n) ls l e ∙ ap (λ k. open_from (suc n) ls ++ k ∷ []) (step n (length ls))
-
-    at : (b : Bool) → cond b (n ∷ open_from (suc n) (ls ++ l ∷ [])) (open_from (suc n) (ls ++ l ∷ []))
+    at : open_from (suc n) (ls ++ l ∷ []) ≡ open_from (suc n) ls ++ (n + suc (length ls)) ∷ []
+        → (b : Bool) → cond b (n ∷ open_from (suc n) (ls ++ l ∷ [])) (open_from (suc n) (ls ++ l ∷ []))
         ≡ cond b (n ∷ open_from (suc n) ls) (open_from (suc n) ls) ++ (n + suc (length ls)) ∷ []
-    at true = ap (λ xs. n ∷ xs) rest
-    at false = rest
+    at rest true = ap (λ xs. n ∷ xs) rest
+    at rest false = rest
 
 -- each of them is there
 open_within : (n : ℕ) (ls : List ClientTold) (k : ℕ) → list_any (nat_eq k) (open_from n ls) ≡ true → k < n + length ls
 open_within n [] k e = absurd (true≢false (sym e))
-open_within n (l ∷ ls) k e = at (is_open l) e
+open_within n (l ∷ ls) k e = at (λ h. open_within (suc n) ls k h) (is_open l) e
   where
     here : k ≡ n → k < n + suc (length ls)
     here is = omega arith
 
-    among : list_any (nat_eq k) (open_from (suc n) ls) ≡ true → k < n + suc (length ls)
-    among h = let rest = open_within (suc n) ls k h in omega arith
+    later : (k m : ℕ) → k < suc n + m → k < n + suc m
+    later k m h = omega arith
 
-    first : (b : Bool) → nat_eq k n ≡ b → b || list_any (nat_eq k) (open_from (suc n) ls) ≡ true → k < n + suc (length ls)
-    first true is h = here (nat_eq_is k n is)
-    first false is h = among h
+    first : (b : Bool) → nat_eq k n ≡ b → (list_any (nat_eq k) (open_from (suc n) ls) ≡ true → k < n + suc (length ls))
+        → b || list_any (nat_eq k) (open_from (suc n) ls) ≡ true → k < n + suc (length ls)
+    first true is among h = here (nat_eq_is k n is)
+    first false is among h = among h
 
-    at : (b : Bool) → list_any (nat_eq k) (cond b (n ∷ open_from (suc n) ls) (open_from (suc n) ls)) ≡ true → k < n + suc (length ls)
-    at true h = first (nat_eq k n) refl h
-    at false h = among h
+    at : (list_any (nat_eq k) (open_from (suc n) ls) ≡ true → k < suc n + length ls) → (b : Bool)
+        → list_any (nat_eq k) (cond b (n ∷ open_from (suc n) ls) (open_from (suc n) ls)) ≡ true → k < n + suc (length ls)
+    at among true h = first (nat_eq k n) refl (λ a. later k (length ls) (among a)) h
+    at among false h = later k (length ls) (among h)
 
 -- each that is open is among them
 open_there : (n : ℕ) (ls : List ClientTold) (i : ℕ) (l : ClientTold) → slice_get ls i ≡ Some l → is_open l ≡ true
@@ -120,18 +120,17 @@ open_there n [] i l is e = absurd (none-some l is)
 open_there n (x ∷ ls) zero l is e =
     ap (λ b. list_any (nat_eq (n + 0)) (cond b (n ∷ open_from (suc n) ls) (open_from (suc n) ls))) (ap is_open (same_Some x l is) ∙ e)
     ∙ ap (λ b. b || list_any (nat_eq (n + 0)) (open_from (suc n) ls)) (ap (λ k. nat_eq k n) (start n) ∙ nat_eq_same n)
-open_there n (x ∷ ls) (suc i) l is e = at (is_open x)
+open_there n (x ∷ ls) (suc i) l is e =
+    at (ap (λ k. list_any (nat_eq k) (open_from (suc n) ls)) (sym (step n i)) ∙ open_there (suc n) ls i l is e) (is_open x)
   where
-    rest : list_any (nat_eq (n + suc i)) (open_from (suc n) ls) ≡ true
-    rest = ap (λ k. list_any (nat_eq k) (open_from (suc n) ls)) (sym (step n i)) ∙ open_there (suc n) ls i l is e
-
     or_right : (a b : Bool) → b ≡ true → a || b ≡ true
     or_right true b h = refl
     or_right false b h = h
 
-    at : (b : Bool) → list_any (nat_eq (n + suc i)) (cond b (n ∷ open_from (suc n) ls) (open_from (suc n) ls)) ≡ true
-    at true = or_right (nat_eq (n + suc i) n) (list_any (nat_eq (n + suc i)) (open_from (suc n) ls)) rest
-    at false = rest
+    at : list_any (nat_eq (n + suc i)) (open_from (suc n) ls) ≡ true
+        → (b : Bool) → list_any (nat_eq (n + suc i)) (cond b (n ∷ open_from (suc n) ls) (open_from (suc n) ls)) ≡ true
+    at rest true = or_right (nat_eq (n + suc i) n) (list_any (nat_eq (n + suc i)) (open_from (suc n) ls)) rest
+    at rest false = rest
 
 pub opened_within : (ls : List ClientTold) (k : ℕ) → list_any (nat_eq k) (open_from 0 ls) ≡ true → k < length ls
 opened_within ls k e = subst (λ n. k < n) (front (length ls)) (open_within 0 ls k e)
@@ -145,21 +144,18 @@ open_filter : (test : ℕ → Bool) (n : ℕ) (ls ms : List ClientTold) → Clie
 open_filter test n [] [] g h = refl
 open_filter test n [] (m ∷ ms) g h = absurd g
 open_filter test n (l ∷ ls) [] g h = absurd g
-open_filter test n (l ∷ ls) (m ∷ ms) g h = at (is_open l) refl
+open_filter test n (l ∷ ls) (m ∷ ms) g h = at (open_filter test (suc n) ls ms g.1 (λ i x is. ap test (step n i) ∙ h (suc i) x is)) (is_open l) refl
   where
-    rest : filter test (open_from (suc n) ls) ≡ open_from (suc n) ms
-    rest = open_filter test (suc n) ls ms g.1 (λ i x is. ap test (step n i) ∙ h (suc i) x is)
-
     here : test n ≡ is_open m
     here = ap test (sym (start n)) ∙ h 0 m refl
 
-    at : (b : Bool) → is_open l ≡ b → filter test (cond (is_open l) (n ∷ open_from (suc n) ls) (open_from (suc n) ls))
+    at : filter test (open_from (suc n) ls) ≡ open_from (suc n) ms → (b : Bool) → is_open l ≡ b → filter test (cond (is_open l) (n ∷ open_from (suc n) ls) (open_from (suc n) ls))
         ≡ cond (is_open m) (n ∷ open_from (suc n) ms) (open_from (suc n) ms)
-    at true e =
+    at rest true e =
         ap (λ b. filter test (cond b (n ∷ open_from (suc n) ls) (open_from (suc n) ls))) e
         ∙ ap (λ b. cond b (n ∷ filter test (open_from (suc n) ls)) (filter test (open_from (suc n) ls))) here
         ∙ ap (λ xs. cond (is_open m) (n ∷ xs) xs) rest
-    at false e =
+    at rest false e =
         ap (λ b. filter test (cond b (n ∷ open_from (suc n) ls) (open_from (suc n) ls))) e ∙ rest
         ∙ sym (ap (λ b. cond b (n ∷ open_from (suc n) ms) (open_from (suc n) ms)) (over_stays l m g.0 e))
 
@@ -171,11 +167,8 @@ opened_filter test ls ms g h = open_filter test 0 ls ms g (λ i m is. ap test (f
 open_owing : (test : ℕ → Bool) (n : ℕ) (ls : List ClientTold) → ((i : ℕ) (l : ClientTold) → slice_get ls i ≡ Some l → test (n + i) ≡ owes l)
     → list_all test (open_from n ls) ≡ all_owing ls
 open_owing test n [] h = refl
-open_owing test n (l ∷ ls) h = at (is_open l) refl
+open_owing test n (l ∷ ls) h = at (open_owing test (suc n) ls (λ i x is. ap test (step n i) ∙ h (suc i) x is)) (is_open l) refl
   where
-    rest : list_all test (open_from (suc n) ls) ≡ all_owing ls
-    rest = open_owing test (suc n) ls (λ i x is. ap test (step n i) ∙ h (suc i) x is)
-
     here : test n ≡ owes l
     here = ap test (sym (start n)) ∙ h 0 l refl
 
@@ -187,12 +180,12 @@ open_owing test n (l ∷ ls) h = at (is_open l) refl
     or_true true = refl
     or_true false = refl
 
-    at : (b : Bool) → is_open l ≡ b → list_all test (cond (is_open l) (n ∷ open_from (suc n) ls) (open_from (suc n) ls))
+    at : list_all test (open_from (suc n) ls) ≡ all_owing ls → (b : Bool) → is_open l ≡ b → list_all test (cond (is_open l) (n ∷ open_from (suc n) ls) (open_from (suc n) ls))
         ≡ (owes l || not (is_open l)) && all_owing ls
-    at true e =
+    at rest true e =
         ap (λ b. list_all test (cond b (n ∷ open_from (suc n) ls) (open_from (suc n) ls))) e
         ∙ ap₂ (λ a b. a && b) (here ∙ or_false (owes l) ∙ ap (λ b. owes l || not b) (sym e)) rest
-    at false e =
+    at rest false e =
         ap (λ b. list_all test (cond b (n ∷ open_from (suc n) ls) (open_from (suc n) ls))) e ∙ rest
         ∙ ap (λ a. a && all_owing ls) (or_true (owes l) ∙ ap (λ b. owes l || not b) (sym e))
 

@@ -1,12 +1,12 @@
 -- Connections as they come and go on while nothing is posted.
-use Rattle.std.proofs.Common.{◌≡◌, refl, sym, ap, ap₂, ◌∙◌, subst, arith, ℕ, zero, suc, ◌-◌, ◌^◌, ◌<◌, ◌≤◌, Bool, true, false, ◌||◌, inl, inr, List, [], ◌∷◌, ◌++◌, length, Some, slice_get, slice_set, nat_lt}
+use Rattle.std.proofs.Common.{◌≡◌, refl, sym, ap, ap₂, ◌∙◌, subst, arith, ℕ, zero, suc, ◌-◌, ◌^◌, ◌<◌, ◌≤◌, Bool, true, false, ◌||◌, List, [], ◌∷◌, ◌++◌, length, Some, slice_get, slice_set, nat_lt}
 use Rattle.std.proofs.lemmas.Bool.{and_parts, and_from, lt-ltb, ltb-true, true≢false}
 use Rattle.std.proofs.lemmas.Option.{none-some, same_Some}
 use Rattle.std.proofs.lemmas.List.Folds.{list_any-append}
 use Rattle.std.specs.List.{list_any}
 use Rattle.conn_future.specs.declared.stage.Stage.{Stage}
 use Rattle.conn_future.specs.declared.stage.Stage.TheVariants as Stages
-use Rattle.conn_future.specs.Stages.{IsAtRest, IsOver}
+use Rattle.conn_future.specs.Stages.{IsAtRest}
 use Rattle.conn_future.specs.Talking.{IsTalking}
 use Rattle.outside_traits.specs.Told.{WireTold}
 use Rattle.run_door_front.specs.Keeping.{is_led, Lead, ClientTold, stage_at, most_open}
@@ -159,7 +159,7 @@ module _ (IsMade : WireTold → Type 0) (leads : List Lead) where
   }
 
   -- its wire tells the same door
-  door_on : (m n : ClientTold) → ClientGoesOn m n → IsNewClient IsMade m → n.seen.line.door ≡ m.seen.line.door
+  pub door_on : (m n : ClientTold) → ClientGoesOn m n → IsNewClient IsMade m → n.seen.line.door ≡ m.seen.line.door
   door_on m n g h =
       let before : IsTalking h.first m.seen [] [] = h.talks in
       let after : IsTalking h.first n.seen [] [] = g.talks h.first [] [] h.talks in

@@ -1,8 +1,7 @@
 -- What a look comes to.
-use Rattle.std.proofs.Common.{◌≡◌, refl, sym, ap, ap₂, ◌∙◌, subst, arith, ℕ, zero, suc, ◌+◌, ◌*◌, ◌-◌, ◌^◌, ◌<◌, ◌≤◌, min, Bool, true, false, ◌&&◌, ◌||◌, ◌⊎◌, inl, inr, List, [], ◌∷◌, ◌++◌, length, map, Some, nat_le, nat_eq, count_by, slice_get, slice_set, length-append}
-use Rattle.std.proofs.lemmas.Bool.{and_parts, true≢false}
+use Rattle.std.proofs.Common.{◌≡◌, refl, sym, ap, ap₂, ◌∙◌, subst, arith, ℕ, zero, suc, ◌+◌, ◌*◌, ◌-◌, ◌^◌, ◌<◌, ◌≤◌, min, Bool, true, false, ◌&&◌, ◌||◌, ◌⊎◌, inl, inr, List, [], ◌∷◌, length, map, nat_le, nat_lt, nat_eq, count_by, slice_set, length-append}
+use Rattle.std.proofs.lemmas.Bool.{and_parts, ltb-true, ltb-false, true≢false}
 use Rattle.std.specs.List.{list_all, sum_by}
-use Rattle.outside_doors.specs.Counts.{added}
 use Rattle.conn_future.specs.declared.stage.Stage.TheVariants as Stages
 use Rattle.outside_traits.specs.Told.{WireTold}
 use Rattle.office_core.specs.declared.front.Posting.{Posting}
@@ -10,14 +9,15 @@ use Rattle.run_theorem.specs.declared.front.Next.{Next}
 use Rattle.run_theorem.specs.declared.front.Next.TheVariants as nexts
 use Rattle.run_theorem.specs.Calls.{most_postings}
 use Rattle.run_door_front.specs.Keeping.{lead_of, Lead, ListenerTold, ClientTold, stage_at, is_open, asks_at, asks, owes, is_so, asks_there, owes_there, rests_at, wires_to, leads_to, closed_off, IsOrdered}
-use Rattle.run_door_front.specs.NextSteps.{wires_of, all_owing, has_room, after_rest, AreNewLinks, ClientsGoOn, LinksGoOn, AreTried, doorway, Accepts, lined, IsQueue, IsPaused, IsPausedAt, queued, PollsAll, Listing, listing, Hands, Going, going, Goes, HasPaused, HavePaused, Posts, Looks}
+use Rattle.run_door_front.specs.NextSteps.{wires_of, all_owing, has_room, after_rest, AreNewLinks, NewInTurn, ClientsGoOn, LinksGoOn, AreTried, doorway, Accepts, lined, IsQueue, IsPaused, IsPausedAt, queued, PollsAll, Listing, listing, Hands, Going, going, Goes, HasPaused, HavePaused, Posts, Looks}
 use Rattle.run_door_front.proofs.Entries.{one_if, count_cons}
 use Rattle.run_door_front.proofs.Leading.{led-more}
 use Rattle.run_door_front.proofs.Doors.{leads-same, all-same, all-further, all_tried-since, rests-on, one_more}
 use Rattle.run_door_front.proofs.Resting.{is_done, all-rested, tried-rested, sums-rested, done-rested, rests-rested}
 use Rattle.run_door_front.proofs.Links.{links-same, links-more, links-on, clients-long}
+use Rattle.run_door_front.proofs.InTurn.{turns-since, news-same, news-doors, news-more, news-on}
 use Rattle.run_door_front.proofs.Lining.{unasked, open_long, opened_owing, first_asks, none_asks, ordered-taken}
-use Rattle.run_door_front.proofs.Polling.{lines-none, lines-further, paused_since}
+use Rattle.run_door_front.proofs.PollingOne.{lines-none, lines-further, paused_since}
 
 -- ---- connections that went on
 
@@ -65,6 +65,30 @@ have_paused IsMade leads (l ∷ ls) (m ∷ ms) (n ∷ ns) g h p none = (
   have_paused IsMade leads ls ms ns g.1 h.1 (λ k. p (suc k)) (λ k. none (suc k)),
 )
 
+-- ---- whether anything changed
+
+-- there are more connections, or fewer are open
+pub changed-so : (known links among opened a b c d : ℕ) (r : Bool) → a ≡ known → b ≡ links → c ≡ among → d ≡ opened → r ≡ (nat_lt a b || nat_lt d c) → r ≡ true
+    → (known < links) ⊎ (opened < among)
+changed-so known links among opened a b c d r e f g h is so =
+    either (nat_lt known links) (nat_lt opened among) refl refl (sym (is ∙ ap₂ (λ p q. p || q) (ap₂ nat_lt e f) (ap₂ nat_lt h g)) ∙ so)
+  where
+    either : (p q : Bool) → nat_lt known links ≡ p → nat_lt opened among ≡ q → p || q ≡ true → (known < links) ⊎ (opened < among)
+    either true q more fewer both = inl (ltb-true known links more)
+    either false true more fewer both = inr (ltb-true opened among fewer)
+    either false false more fewer both = absurd (true≢false (sym both))
+
+-- there are not
+pub unchanged-so : (known links among opened a b c d : ℕ) (r : Bool) → a ≡ known → b ≡ links → c ≡ among → d ≡ opened → r ≡ (nat_lt a b || nat_lt d c)
+    → r ≡ false → (links ≤ known) × (among ≤ opened)
+unchanged-so known links among opened a b c d r e f g h is so =
+    neither (nat_lt known links) (nat_lt opened among) refl refl (sym (is ∙ ap₂ (λ p q. p || q) (ap₂ nat_lt e f) (ap₂ nat_lt h g)) ∙ so)
+  where
+    neither : (p q : Bool) → nat_lt known links ≡ p → nat_lt opened among ≡ q → p || q ≡ false → (links ≤ known) × (among ≤ opened)
+    neither true q more fewer both = absurd (true≢false both)
+    neither false true more fewer both = absurd (true≢false both)
+    neither false false more fewer both = (ltb-false known links more, ltb-false opened among fewer)
+
 -- ---- how much is left to do
 
 -- the connections that may still come, each for two, and those that may still end
@@ -78,6 +102,7 @@ module _ (IsMade : WireTold → Type 0) (most : ℕ) where
   goes-none x = record {
     doors = all-same x.doors;
     connections = links-same IsMade (map lead_of x.doors) x.connections;
+    in_turn = news-same x.doors x.connections;
     traffics = refl;
     line = lines-none x.connections x.queue;
     ordered = λ o. o;
@@ -94,6 +119,10 @@ module _ (IsMade : WireTold → Type 0) (most : ℕ) where
     connections = subst (LinksGoOn IsMade (map lead_of x.doors) x.connections) (sym a.takes.grown)
         (links-more IsMade (map lead_of x.doors) x.connections y.connections a.takes.more g.connections
         (subst (λ ss. AreNewLinks IsMade ss a.takes.more) (leads-same x.doors y.doors g.doors) a.takes.fresh));
+    in_turn = subst (NewInTurn x.doors doors x.connections) (sym a.takes.grown)
+        (news-more x.doors doors x.connections y.connections a.takes.more
+        (news-doors x.doors y.doors doors x.connections y.connections a.takes.goes g.in_turn)
+        (turns-since x.doors y.doors doors a.takes.more g.doors a.takes.in_turn));
     traffics = g.traffics;
     line = g.line;
     ordered = λ o. a.takes.ordered y.queue (g.ordered o);
@@ -118,6 +147,7 @@ module _ (IsMade : WireTold → Type 0) (most : ℕ) where
   goes-polls x y links opened queue g p = record {
     doors = g.doors;
     connections = links-on IsMade (map lead_of x.doors) x.connections y.connections links g.connections p.goes;
+    in_turn = news-on IsMade (map lead_of x.doors) x.doors y.doors x.connections y.connections links g.connections p.goes g.in_turn;
     traffics = g.traffics;
     line = lines-further x.connections y.connections x.queue y.queue queue (unasked_links IsMade (map lead_of x.doors) x.connections y.connections g.connections) g.line p.line;
     ordered = λ o. p.ordered;
@@ -132,6 +162,7 @@ module _ (IsMade : WireTold → Type 0) (most : ℕ) where
   goes-rests x doors links opened queue traffics g = record {
     doors = all-further x.doors doors (after_rest doors) g.doors (all-rested doors);
     connections = g.connections;
+    in_turn = news-doors x.doors doors (after_rest doors) x.connections links (all-rested doors) g.in_turn;
     traffics = g.traffics;
     line = g.line;
     ordered = g.ordered;
@@ -181,9 +212,18 @@ module _ (IsMade : WireTold → Type 0) (most : ℕ) where
         let both = and_parts (closed_off most doors now) (all_owing now) (ap (λ b. closed_off most doors now && b) (sym owing_is) ∙ done) in
         inr (record { goes = turned; none = none; over = both.0; owing = both.1 })
 
+    nobody-came : length links ≤ length y.connections → length links ≡ length y.connections
+    nobody-came few = let grown = ap length a.takes.grown ∙ length-append y.connections a.takes.more in omega (arith, grown, few)
+
+    none-ended : length among ≤ length opened → length opened ≡ length among
+    none-ended many = let fewer = p.fewer in omega (arith, fewer, many)
+
     -- nothing comes for now
     module _ (none : queue ≡ []) (some : closed_off most doors now && list_all (owes_there now) opened ≡ false)
-        (nobody : length links ≡ length y.connections) (unended : length opened ≡ length among) where
+        (few : length links ≤ length y.connections) (many : length among ≤ length opened) where
+      unended : length opened ≡ length among
+      unended = none-ended many
+
       more : closed_off most doors now && all_owing now ≡ false
       more = ap (λ b. closed_off most doors now && b) (sym owing_is) ∙ some
 
@@ -248,8 +288,10 @@ module _ (IsMade : WireTold → Type 0) (most : ℕ) where
         ]
 
     -- nobody came and none ended
-    pub left-same : length links ≡ length y.connections → length opened ≡ length among → left most (going doors now opened queue y.traffics) ≡ left most y
-    left-same nobody unended =
+    pub left-same : length links ≤ length y.connections → length among ≤ length opened → left most (going doors now opened queue y.traffics) ≡ left most y
+    left-same few many =
+        let nobody = nobody-came few in
+        let unended = none-ended many in
         let grown = ap length a.takes.grown ∙ length-append y.connections a.takes.more in
         let wider = a.takes.as_many in
         let long = clients-long links now p.goes in

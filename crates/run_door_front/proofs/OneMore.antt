@@ -2,7 +2,7 @@
 use Rattle.std.proofs.Common.{Option, ◌≡◌, refl, sym, ap, ap₂, ◌∙◌, subst, arith, ℕ, zero, suc, ◌<◌, ◌≤◌, Bool, true, false, ◌&&◌, ◌||◌, ◌⊎◌, inl, inr, List, [], ◌∷◌, ◌++◌, length, map, take, Some, count_by, slice_get, slice_set, nat_eq, nat_lt, append-nil, length-append}
 use Rattle.std.specs.List.{list_all, list_any}
 use Rattle.std.proofs.lemmas.Bool.{and_parts, and_from, ltb-true, true≢false}
-use Rattle.std.proofs.lemmas.Option.{none-some, same_Some}
+use Rattle.std.proofs.lemmas.Option.{none-some, same_Some, slice_get_within}
 use Rattle.std.proofs.lemmas.List.{map-append, take_all}
 use Rattle.behaviour_tree.specs.Data.{ProgramParts}
 use Rattle.jsonrpc_text.specs.Posted.{posted}
@@ -142,13 +142,8 @@ taken_more vs asked k v body is t = record {
   all = λ m w e. by_place m w e (nat_eq k m) refl;
 }
   where
-    within : (xs : List Asked) (j : ℕ) (a : Asked) → slice_get xs j ≡ Some a → j ≤ length xs
-    within [] j a e = absurd (none-some a e)
-    within (x ∷ xs) zero a e = omega arith
-    within (x ∷ xs) (suc j) a e = let h = within xs j a e in omega arith
-
     inside : (j : ℕ) (a : Asked) → slice_get asked j ≡ Some a → j ≤ length asked
-    inside j a e = within asked j a e
+    inside j a e = let h = slice_get_within asked j a e in omega arith
 
     one_here : (m : ℕ) → nat_eq k m ≡ true → count_by (is_of m) (next_of k asked ∷ []) ≡ 1
     one_here m same =
@@ -251,16 +246,11 @@ module _ (IsMade : WireTold → Type 0) (parts : ProgramParts) (leads : List Lea
       counts : length all.asked ≡ length all.came
       counts = came_length s.connections all.asked all.came s.came
 
-      within : {A : Type 0} (xs : List A) (j : ℕ) (a : A) → slice_get xs j ≡ Some a → j < length xs
-      within [] j a e = absurd (none-some a e)
-      within (x ∷ xs) zero a e = omega arith
-      within (x ∷ xs) (suc j) a e = let h = within xs j a e in omega arith
-
       clash : (j : ℕ) (a : Asked) → slice_get all.asked j ≡ Some a → j ≡ length all.came → ⊥
-      clash j a e is = let h = within all.asked j a e in let n = counts in omega arith
+      clash j a e is = let h = slice_get_within all.asked j a e in let n = counts in omega arith
 
       clash_came : (j : ℕ) (c : Came) → slice_get all.came j ≡ Some c → j ≡ length all.asked → ⊥
-      clash_came j c e is = let h = within all.came j c e in let n = counts in omega arith
+      clash_came j c e is = let h = slice_get_within all.came j c e in let n = counts in omega arith
 
       old_all : Heard parts (slice_set before.connections number one.later) connections all heard
       old_all =

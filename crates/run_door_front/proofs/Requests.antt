@@ -12,7 +12,6 @@ use Rattle.run_theorem.specs.Calls.{is_of}
 use Rattle.run_theorem.specs.Texts.{Came}
 use Rattle.run_theorem.specs.RunConnections.{RunConnection, came_with, came_of, came_at, AreTaken}
 use Rattle.run_theorem.specs.Served.{Requests}
-use Rattle.conn_future.specs.declared.stage.Stage.{Stage}
 use Rattle.conn_future.specs.declared.stage.Stage.TheVariants as Stages
 use Rattle.outside_traits.specs.Told.{WireTold}
 use Rattle.run_door_front.specs.declared.link.PendingReply.{PendingReply}

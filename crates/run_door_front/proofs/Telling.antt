@@ -9,9 +9,9 @@ use Rattle.run_door_front.specs.AnswerSteps.{HasTold, HasAnswered}
 -- the connection of a place was told, by what stands there before and after
 pub answered_so : (parts : ProgramParts) (t : Told) (before now : Keeping) (number : ℕ) (link after : ClientTold)
     → slice_get before.traffics t.place ≡ Some number → slice_get before.connections number ≡ Some link → now.connections ≡ slice_set before.connections number after
-    → HasTold parts t link after → now.doors ≡ before.doors → now.traffics ≡ before.traffics → now.most ≡ before.most → now.halted ≡ before.halted
-    → now.spent ≡ before.spent → HasAnswered parts t before now
-answered_so parts t before now number link after place there links tells ports traffics most halted spent = record {
+    → HasTold parts t link after → now.doors ≡ before.doors → now.opened ≡ before.opened → now.queue ≡ before.queue → now.traffics ≡ before.traffics
+    → now.most ≡ before.most → now.halted ≡ before.halted → now.spent ≡ before.spent → HasAnswered parts t before now
+answered_so parts t before now number link after place there links tells ports opened queue traffics most halted spent = record {
   number = number;
   place = place;
   link = link;
@@ -20,6 +20,8 @@ answered_so parts t before now number link after place there links tells ports t
   connections = links;
   tells = tells;
   doors = ports;
+  opened = opened;
+  queue = queue;
   traffics = traffics;
   most = most;
   halted = halted;

@@ -50,18 +50,18 @@ pub doors_waited : (ps qs : List ListenerTold) → AllGoOn ps qs → AreTried ps
 doors_waited [] [] g t some = absurd (true≢false some)
 doors_waited [] (q ∷ qs) g t some = absurd g
 doors_waited (p ∷ ps) [] g t some = absurd g
-doors_waited (p ∷ ps) (q ∷ qs) g t some = at (is_done q) refl some
+doors_waited (p ∷ ps) (q ∷ qs) g t some = at (λ others. doors_waited ps qs g.1 t.1 others) (is_done q) refl some
   where
     here : IsTried p q → is_done q ≡ false → added p.door.waits 1 ≤ q.door.waits
     here (inl done) e = absurd (true≢false (sym done ∙ e))
     here (inr more) e = more
 
-    at : (b : Bool) → is_done q ≡ b → b && list_all is_done qs ≡ false
-        → added (sum_by door_waits (p ∷ ps)) 1 ≤ sum_by door_waits (q ∷ qs)
-    at true e others =
+    at : (list_all is_done qs ≡ false → added (sum_by door_waits ps) 1 ≤ sum_by door_waits qs) → (b : Bool) → is_done q ≡ b
+        → b && list_all is_done qs ≡ false → added (sum_by door_waits (p ∷ ps)) 1 ≤ sum_by door_waits (q ∷ qs)
+    at rest true e others =
         more_there p.door.waits (sum_by door_waits ps) q.door.waits (sum_by door_waits qs) (sum_by door_waits (p ∷ ps)) (sum_by door_waits (q ∷ qs)) (2 ^ 64 - 1)
-        (sum_by-cons door_waits p ps) (sum_by-cons door_waits q qs) g.0.waits (doors_waited ps qs g.1 t.1 others)
-    at false e others =
+        (sum_by-cons door_waits p ps) (sum_by-cons door_waits q qs) g.0.waits (rest others)
+    at rest false e others =
         more_here p.door.waits (sum_by door_waits ps) q.door.waits (sum_by door_waits qs) (sum_by door_waits (p ∷ ps)) (sum_by door_waits (q ∷ qs)) (2 ^ 64 - 1)
         (sum_by-cons door_waits p ps) (sum_by-cons door_waits q qs) (here t.0 e) (waits-on ps qs g.1)
 
@@ -100,23 +100,25 @@ waited_then waits m (inr (inr more)) e = more
 pub links_waited : (IsMade : WireTold → Type 0) (leads : List Lead) (ls ms : List ClientTold) → LinksGoOn IsMade leads ls ms → HavePaused ls ms → all_owing ms ≡ false
     → added (sum_by (λ (l : ClientTold). l.waits) ls) 1 ≤ sum_by (λ (l : ClientTold). l.waits) ms
 links_waited IsMade leads [] [] g h some = absurd (true≢false some)
-links_waited IsMade leads [] (m ∷ ms) g h some = at (owes m || not (is_open m)) refl some
+links_waited IsMade leads [] (m ∷ ms) g h some = at (λ others. links_waited IsMade leads [] ms g.2 h.1 others) (owes m || not (is_open m)) refl some
   where
-    at : (b : Bool) → owes m || not (is_open m) ≡ b → b && all_owing ms ≡ false → added (sum_by link_waits []) 1 ≤ sum_by link_waits (m ∷ ms)
-    at true e others =
+    at : (all_owing ms ≡ false → added (sum_by link_waits []) 1 ≤ sum_by link_waits ms) → (b : Bool) → owes m || not (is_open m) ≡ b
+        → b && all_owing ms ≡ false → added (sum_by link_waits []) 1 ≤ sum_by link_waits (m ∷ ms)
+    at rest true e others =
         more_there 0 (sum_by link_waits []) m.waits (sum_by link_waits ms) (sum_by link_waits []) (sum_by link_waits (m ∷ ms)) (2 ^ 64 - 1)
-        refl (sum_by-cons link_waits m ms) (none_fallen m.waits (2 ^ 64 - 1)) (links_waited IsMade leads [] ms g.2 h.1 others)
-    at false e others =
+        refl (sum_by-cons link_waits m ms) (none_fallen m.waits (2 ^ 64 - 1)) (rest others)
+    at rest false e others =
         more_here 0 (sum_by link_waits []) m.waits (sum_by link_waits ms) (sum_by link_waits []) (sum_by link_waits (m ∷ ms)) (2 ^ 64 - 1)
         refl (sum_by-cons link_waits m ms) (waited_then 0 m h.0 e) (none_fallen (sum_by link_waits ms) (2 ^ 64 - 1))
 links_waited IsMade leads (l ∷ ls) [] g h some = absurd g
-links_waited IsMade leads (l ∷ ls) (m ∷ ms) g h some = at (owes m || not (is_open m)) refl some
+links_waited IsMade leads (l ∷ ls) (m ∷ ms) g h some = at (λ others. links_waited IsMade leads ls ms g.1 h.1 others) (owes m || not (is_open m)) refl some
   where
-    at : (b : Bool) → owes m || not (is_open m) ≡ b → b && all_owing ms ≡ false → added (sum_by link_waits (l ∷ ls)) 1 ≤ sum_by link_waits (m ∷ ms)
-    at true e others =
+    at : (all_owing ms ≡ false → added (sum_by link_waits ls) 1 ≤ sum_by link_waits ms) → (b : Bool) → owes m || not (is_open m) ≡ b
+        → b && all_owing ms ≡ false → added (sum_by link_waits (l ∷ ls)) 1 ≤ sum_by link_waits (m ∷ ms)
+    at rest true e others =
         more_there l.waits (sum_by link_waits ls) m.waits (sum_by link_waits ms) (sum_by link_waits (l ∷ ls)) (sum_by link_waits (m ∷ ms)) (2 ^ 64 - 1)
-        (sum_by-cons link_waits l ls) (sum_by-cons link_waits m ms) g.0.waits (links_waited IsMade leads ls ms g.1 h.1 others)
-    at false e others =
+        (sum_by-cons link_waits l ls) (sum_by-cons link_waits m ms) g.0.waits (rest others)
+    at rest false e others =
         more_here l.waits (sum_by link_waits ls) m.waits (sum_by link_waits ms) (sum_by link_waits (l ∷ ls)) (sum_by link_waits (m ∷ ms)) (2 ^ 64 - 1)
         (sum_by-cons link_waits l ls) (sum_by-cons link_waits m ms) (waited_then l.waits m h.0 e) (links_waits IsMade leads ls ms g.1)
 

@@ -1,6 +1,6 @@
 -- These definitions serve the proofs alone: no promise speaks of them.
 -- What a front over doors does where an answer is told to it or a text is noted.
-use Rattle.std.specs.Prelude.{◌≡◌, ℕ, Bool, true, false, ◌&&◌, if◌then◌else◌, nat_eq, List, ◌∷◌, [], ◌++◌}
+use Rattle.std.specs.Prelude.{◌≡◌, ℕ, Bool, false, ◌&&◌, if◌then◌else◌, nat_eq, List, ◌∷◌, [], ◌++◌}
 use Rattle.std.specs.Prelude.{Option, None, Some, slice_get, slice_set}
 use Rattle.behaviour_tree.specs.Data.{ProgramParts}
 use Rattle.behaviour_tree.specs.declared.words.Outcome.{Outcome}
@@ -86,6 +86,8 @@ pub record HasAnswered (parts : ProgramParts) (told : Told) (before now : Keepin
   pub connections : now.connections ≡ slice_set before.connections number after
   pub tells : HasTold parts told link after
   pub doors : now.doors ≡ before.doors
+  pub opened : now.opened ≡ before.opened
+  pub queue : now.queue ≡ before.queue
   pub traffics : now.traffics ≡ before.traffics
   pub most : now.most ≡ before.most
   pub halted : now.halted ≡ before.halted

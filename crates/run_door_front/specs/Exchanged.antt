@@ -1,5 +1,5 @@
 -- What passed between a front over doors and its run.
-use Rattle.std.specs.Prelude.{◌≡◌, ◌≢◌, ◌⊎◌, ℕ, suc, ◌+◌, ◌-◌, ◌^◌, ◌<◌, ◌≤◌, min, Bool, true, false, List, [], ◌∷◌}
+use Rattle.std.specs.Prelude.{◌≡◌, ◌≢◌, ◌⊎◌, ℕ, suc, ◌+◌, ◌-◌, ◌^◌, ◌<◌, ◌≤◌, min, true, false, List, [], ◌∷◌}
 use Rattle.std.specs.Prelude.{length, map, take, nat_eq, nat_lt, count_by, Option, None, Some, Contains, slice_get}
 use Rattle.std.specs.List.{list_all, list_any, sum_by}
 use Rattle.std.specs.Io.KnownBytes.{Appends}

@@ -1,6 +1,6 @@
 -- What a front over doors keeps.
 use Rattle.std.specs.Prelude.{◌≡◌, ℕ, suc, ◌≤◌, Bool, true, false, ◌||◌, if◌then◌else◌, List, [], ◌∷◌, length, map}
-use Rattle.std.specs.Prelude.{nat_eq, nat_le, count_by, ◌&&◌, Option, None, Some, slice_get}
+use Rattle.std.specs.Prelude.{nat_eq, nat_le, count_by, Option, None, Some, slice_get}
 use Rattle.std.specs.List.{list_all, sum_by}
 use Rattle.outside_doors.specs.Counts.{DoorTold, untried, has_ended}
 use Rattle.outside_polling.specs.Polls.{PollTold}

@@ -11,12 +11,10 @@ use Rattle.run_theorem.specs.declared.front.Next.TheVariants as next
 use Rattle.run_theorem.specs.Calls.{most_postings}
 use Rattle.run_theorem.specs.Texts.{posting_of}
 use Rattle.run_theorem.specs.RunConnections.{came_with}
-use Rattle.conn_future.specs.declared.stage.Stage.{Stage}
 use Rattle.conn_future.specs.declared.stage.Stage.TheVariants as Stages
 use Rattle.conn_future.specs.Stages.{IsOver, IsUnanswered, IsAtRest}
 use Rattle.conn_future.specs.Talking.{IsTalking, TalksOn}
 use Rattle.outside_traits.specs.Told.{WireTold}
-use Rattle.run_door_front.specs.declared.link.PendingReply.{PendingReply}
 use Rattle.run_door_front.specs.Keeping.{ListenerTold, ClientTold, Keeping, Lead, lead_of, is_led, rests_at, wires_to}
 use Rattle.run_door_front.specs.Keeping.{leads_to, AreLed, stage_at, is_open, asks, owes, asks_there, IsOrdered, closed_off}
 use Rattle.run_door_front.specs.Exchanged.{IsNewLine, most_open}
@@ -121,6 +119,23 @@ CameInOrder [] links = links ≡ []
 CameInOrder (d ∷ ds) links = (here : List ClientTold) × (others : List ClientTold) × (links ≡ here ++ others)
     × (list_all (λ link. came_by link d) here ≡ true) × CameInOrder ds others
 
+-- A connection came at one of these doors, when nobody came any more at each of those before it in the text.
+abbrev pub CameInTurn : List ListenerTold → List ListenerTold → ClientTold → Type 0
+CameInTurn [] qs link = ⊥
+CameInTurn (p ∷ ps) [] link = ⊥
+CameInTurn (p ∷ ps) (q ∷ qs) link = (came_by link (lead_of p) ≡ true) ⊎ (IsTried p q × CameInTurn ps qs link)
+
+-- the same of each
+abbrev pub AllInTurn : List ListenerTold → List ListenerTold → List ClientTold → Type 0
+AllInTurn ps qs [] = Unit {0}
+AllInTurn ps qs (l ∷ ls) = CameInTurn ps qs l × AllInTurn ps qs ls
+
+-- the same of each that came since there were these
+abbrev pub NewInTurn : List ListenerTold → List ListenerTold → List ClientTold → List ClientTold → Type 0
+NewInTurn ps qs [] now = AllInTurn ps qs now
+NewInTurn ps qs (l ∷ ls) [] = ⊥
+NewInTurn ps qs (l ∷ ls) (m ∷ ms) = NewInTurn ps qs ls ms
+
 -- A connection goes on while nothing is posted of it and nothing is told to it. Where an answer is pending or a request
 -- is whole, or where it is over, it stays as it is.
 pub record ClientGoesOn (before now : ClientTold) : Type 0 where
@@ -157,6 +172,8 @@ pub record TakesIn (IsMade : WireTold → Type 0) (most : ℕ) (before now : Doo
   pub grown : now.connections ≡ before.connections ++ more
   pub fresh : AreNewLinks IsMade (map lead_of before.doors) more
   pub in_order : CameInOrder (map lead_of before.doors) more
+  pub in_turn : AllInTurn before.doors now.doors more
+  pub shut : has_room most (length before.connections) (length before.opened) ≡ false → more ≡ []
   pub ordered : (queue : List ℕ) → IsOrdered before.connections before.opened queue → IsOrdered now.connections now.opened queue
   pub as_many : length now.opened ≡ length before.opened + length more
   pub fits : (length more ≡ 0) ⊎ (length now.connections ≤ most)
@@ -325,10 +342,12 @@ going doors connections opened queue traffics = record {
   traffics = traffics;
 }
 
--- Doors and connections went on while nothing was posted; whoever came to ask stands at the end of the queue.
+-- Doors and connections went on while nothing was posted; who came at a door came when nobody came any more at those
+-- before it in the text; whoever came to ask stands at the end of the queue.
 pub record Goes (IsMade : WireTold → Type 0) (most : ℕ) (before now : Going) : Type 0 where
   pub doors : AllGoOn before.doors now.doors
   pub connections : LinksGoOn IsMade (map lead_of before.doors) before.connections now.connections
+  pub in_turn : NewInTurn before.doors now.doors before.connections now.connections
   pub traffics : now.traffics ≡ before.traffics
   pub line : LinesUp before.connections before.queue now.queue
   pub ordered : IsOrdered before.connections before.opened before.queue → IsOrdered now.connections now.opened now.queue

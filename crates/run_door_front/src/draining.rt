@@ -38,8 +38,9 @@ fn drain<D: Door + Drop>(
     if halted {
         return Ok(());
     }
-    for _ in 0..MOST_ROUNDS {
-        if !write_all(connections)? {
+    for _round in 0..MOST_ROUNDS {
+        let writes = write_all(connections)?;
+        if !writes {
             return Ok(());
         }
         rest(doors);

@@ -45,8 +45,8 @@ impl<W: PollWire + Drop> Client<W> {
     /// The wire, which is closed, the bytes that were read and the bytes that were written.
     pub fn into_parts(self) -> (W, Vec<u8>, Vec<u8>)
         ensures wire { W.told result.0 ≡ shut_so (told_of_wire self) }
-        ensures read { result.1 ≡ self.seen.kept.read }
-        ensures written { result.2 ≡ self.seen.kept.written }
+        ensures read { result.1.items ≡ self.seen.kept.read.items }
+        ensures written { result.2.items ≡ self.seen.kept.written.items }
     {
         let Client {
             service: _,

@@ -1,5 +1,5 @@
 //! The next posting of a front over doors.
-ghost use Rattle.std.specs.Prelude.{◌≡◌, ◌&&◌, ◌∷◌, [], true, false, IfOk, OnOk, IsErr, MatchOption, MatchResult};
+ghost use Rattle.std.specs.Prelude.{◌≡◌, ◌&&◌, ◌||◌, ◌∷◌, [], nat_lt, true, false, IfOk, OnOk, IsErr, MatchOption, MatchResult};
 ghost use Rattle.std.specs.List.{list_all};
 ghost use Rattle.outside_doors.specs.Counts.{has_ended};
 ghost use Rattle.run_door_front.specs.Keeping.{ListenerTold, IsOrdered, closed_off, owes_there};
@@ -82,7 +82,7 @@ fn look<D: Door + Drop>(
         if is_done(doors, connections, opened, most) {
             return Ok(Next::End);
         }
-        if known < connections.len() || opened.len() < among {
+        if has_changed(known, connections.len(), among, opened.len()) {
             continue;
         }
         rest(doors);
@@ -91,6 +91,13 @@ fn look<D: Door + Drop>(
         }
         left -= 1;
     }
+}
+
+/// Whether there are more connections than were known, or fewer are open than were.
+fn has_changed(known: usize, connections: usize, among: usize, opened: usize) -> bool
+    ensures { result ≡ (nat_lt known connections || nat_lt opened among) }
+{
+    known < connections || opened < among
 }
 
 /// The first of the queue, which leaves it.

@@ -25,14 +25,14 @@ pub(crate) struct Polled {
 /// Polls each open connection. One whose request is whole then comes to the end of the queue, and one that is over is
 /// open no more. It says whether bytes moved. After want of memory nothing is sent of the connections.
 pub(crate) fn poll_all<W: PollWire + Drop>(
-    connections: &mut [Client<W>],
+    connections: &mut Vec<Client<W>>,
     opened: &mut Vec<usize>,
     queue: &mut Vec<usize>,
 ) -> Result<bool, AllocError>
-    requires { IsOrdered connections.old opened.old.items queue.old.items }
+    requires { IsOrdered connections.old.items opened.old.items queue.old.items }
     ensures { IfOk result (λ _. PollsAll
-        (queued connections.old opened.old.items queue.old.items)
-        (queued connections.new opened.new.items queue.new.items)) }
+        (queued connections.old.items opened.old.items queue.old.items)
+        (queued connections.new.items opened.new.items queue.new.items)) }
 {
     let moved = poll_open(connections, opened.as_slice(), queue)?;
     keep_open(connections, opened);
@@ -48,14 +48,14 @@ fn keep_open<W: PollWire + Drop>(connections: &[Client<W>], numbers: &mut Vec<us
 
 /// Polls the connections of these numbers.
 fn poll_open<W: PollWire + Drop>(
-    connections: &mut [Client<W>],
+    connections: &mut Vec<Client<W>>,
     opened: &[usize],
     queue: &mut Vec<usize>,
 ) -> Result<bool, AllocError>
-    requires { IsOrdered connections.old opened.now queue.old.items }
+    requires { IsOrdered connections.old.items opened.now queue.old.items }
     ensures { IfOk result (λ _. Polls opened.now
-        (lined connections.old queue.old.items)
-        (lined connections.new queue.new.items)) }
+        (lined connections.old.items queue.old.items)
+        (lined connections.new.items queue.new.items)) }
 {
     let mut moved = false;
     for number in opened {
@@ -66,14 +66,14 @@ fn poll_open<W: PollWire + Drop>(
 
 /// Polls the connection of a number, which comes to the end of the queue where its request is whole then.
 fn poll_at<W: PollWire + Drop>(
-    connections: &mut [Client<W>],
+    connections: &mut Vec<Client<W>>,
     number: usize,
     queue: &mut Vec<usize>,
 ) -> Result<bool, AllocError>
-    requires { number < length connections.old }
+    requires { number < length connections.old.items }
     ensures { IfOk result (λ _. IsPolledAt number
-        (lined connections.old queue.old.items)
-        (lined connections.new queue.new.items)) }
+        (lined connections.old.items queue.old.items)
+        (lined connections.new.items queue.new.items)) }
 {
     let Polled { moved, asks } = connections[number].poll()?;
     if asks {
@@ -95,14 +95,14 @@ fn is_open_at<W: PollWire + Drop>(connections: &[Client<W>], number: usize) -> b
 /// The posting of the request of a connection, which is whole.
 pub(crate) fn hand_out<W: PollWire + Drop>(
     alloc: Global,
-    connections: &mut [Client<W>],
+    connections: &mut Vec<Client<W>>,
     traffics: &mut Vec<usize>,
     number: usize,
 ) -> Result<Posting, AllocError>
-    requires { asks_there connections.old number ≡ true }
+    requires { asks_there connections.old.items number ≡ true }
     ensures { IfOk result (λ posting. Hands number posting
-        (listing connections.old traffics.old.items)
-        (listing connections.new traffics.new.items)) }
+        (listing connections.old.items traffics.old.items)
+        (listing connections.new.items traffics.new.items)) }
 {
     let place = traffics.len();
     let posting = connections[number].ask(alloc, place)?;

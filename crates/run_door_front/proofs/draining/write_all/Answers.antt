@@ -11,13 +11,13 @@ loop-connection-preserved g c =
     let at = c.loop-connection in
     let before = c.args.connections.now in
     record {
-      unvisited = left_as_was before at.connections at.connection-index c.write_on-writes.new.self at.invariant.unvisited;
+      unvisited = left_as_was before at.connections at.connection-index c.write_on.new.self at.invariant.unvisited;
       writes =
-          writing-step before at.connections at.connection-index c.write_on-writes.new.self at.writes _ c.loop-connection-test.true at.invariant.unvisited
-          at.invariant.writes c.in_ok-write_on.ensures.0;
+          writing-step before at.connections at.connection-index c.write_on.new.self at.writes _ c.loop-connection-test.true at.invariant.unvisited
+          at.invariant.writes c.in_ok-writes.ensures.0;
       written =
-          written-step before at.connections at.connection-index c.connection-item.result c.write_on-writes.new.self c.loop-connection-test.true
-          at.invariant.unvisited at.invariant.written c.in_ok-write_on.ensures.1;
+          written-step before at.connections at.connection-index c.connection-item.result c.write_on.new.self c.loop-connection-test.true
+          at.invariant.unvisited at.invariant.written c.in_ok-writes.ensures.1;
     }
 
 pub returns : goal.returns

@@ -4,4 +4,4 @@ use Rattle.run_door_front.proofs.polling.poll_open.Given as goal
 
 abbrev pub invariant-loop-number : goal.invariant-loop-number
 invariant-loop-number g l =
-    Polls (take l.number-index l.opened) (lined l.fn.connections l.fn.queue.items) (lined l.connections l.queue.items)
+    Polls (take l.number-index l.opened) (lined l.fn.connections.items l.fn.queue.items) (lined l.connections.items l.queue.items)

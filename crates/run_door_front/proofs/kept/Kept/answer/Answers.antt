@@ -43,7 +43,8 @@ returns-clause-answered g c = λ n h.
     (ap (λ (k : Keeping). slice_get k.traffics place) (sym same) ∙ (awaited_there place number links traffics found).0)
     (ap (λ (k : Keeping). slice_get k.connections number) (sym same) ∙ is.0)
     (ap (λ (k : Keeping). slice_set k.connections number c.answer.new.self) same)
-    (c.in_ok-answer.ensures place is.1) (ap (λ (k : Keeping). k.doors) same) (ap (λ (k : Keeping). k.traffics) same) (ap (λ (k : Keeping). k.most) same)
+    (c.in_ok-answer.ensures place is.1) (ap (λ (k : Keeping). k.doors) same) (ap (λ (k : Keeping). k.opened) same)
+    (ap (λ (k : Keeping). k.queue) same) (ap (λ (k : Keeping). k.traffics) same) (ap (λ (k : Keeping). k.most) same)
     (ap (λ (k : Keeping). k.halted) same) (ap (λ (k : Keeping). k.spent) same)
 
 pub returns-clause-nobody : goal.returns-clause-nobody
@@ -64,8 +65,8 @@ returns-in_default-clause-answered g c = λ n h.
 pub returns-in_default-clause-nobody : goal.returns-in_default-clause-nobody
 returns-in_default-clause-nobody g c = λ none. (refl, refl)
 
-pub invariant_of-self : goal.invariant_of-self
-invariant_of-self g c = λ unspent.
+pub invariant_of-self-2 : goal.invariant_of-self-2
+invariant_of-self-2 g c = λ unspent.
     let x = c.self.inside in
     let place = c.args.place in
     let number = c.in-Some.number in

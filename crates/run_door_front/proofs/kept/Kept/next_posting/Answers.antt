@@ -24,8 +24,8 @@ returns-clause-ordered g c =
     (going c.look.new.doors c.look.new.connections.items c.look.new.opened.items c.look.new.queue.items c.look.new.traffics.items)
     c.in_ok-next.ensures (c.self.invariant c.if-self.false)
 
-pub invariant_of-self : goal.invariant_of-self
-invariant_of-self g c = λ _.
+pub invariant_of-self-2 : goal.invariant_of-self-2
+invariant_of-self-2 g c = λ _.
     let x = c.self.inside in
     looks-ordered _ x.most c.in_ok-next.next
     (going c.deref_mut.result.now x.connections.items x.opened.items x.queue.items x.traffics.items)

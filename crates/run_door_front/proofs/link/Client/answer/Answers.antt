@@ -3,7 +3,6 @@ use Rattle.std.proofs.Common.{◌≡◌, ◌∷◌, ◌++◌, [], refl, sym, ap,
 use Rattle.behaviour_tree.specs.PartsView.{parts_of}
 use Rattle.conn_future.specs.declared.stage.Stage.TheVariants as Stages
 use Rattle.conn_future.specs.Talking.{seen, IsTalking}
-use Rattle.outside_polling.specs.Polls.{PollTold}
 use Rattle.run_door_front.specs.Keeping.{ClientTold, stage_at}
 use Rattle.run_door_front.specs.AnswerSteps.{told_of, IsTextOf, HasTold}
 use Rattle.run_door_front.proofs.Owing.{owing_is, client_told}

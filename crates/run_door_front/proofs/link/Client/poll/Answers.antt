@@ -1,8 +1,8 @@
 -- A poll of a connection goes as far as its wire goes.
-use Rattle.std.proofs.Common.{◌≡◌, ◌&&◌, not, refl, sym, ap, ◌∙◌}
+use Rattle.std.proofs.Common.{◌&&◌, not, refl, ap, ◌∙◌}
 use Rattle.conn_future.specs.Talking.{seen}
 use Rattle.run_door_front.specs.Keeping.{ClientTold, asks}
-use Rattle.run_door_front.proofs.Polling.{polled-pending, polled-over}
+use Rattle.run_door_front.proofs.PollingOne.{polled-pending, polled-over}
 use Rattle.run_door_front.proofs.link.Client.poll.Goals as goal
 
 pub returns-in-Pending : goal.returns-in-Pending
@@ -25,6 +25,7 @@ returns-in-Ready-Ok g c =
     let y = c.poll.new.self in
     let now : ClientTold = record { service = x.service; seen = seen y.kept (told y.wire); waits = (told y.wire).waits; pending = x.pending } in (
       polled-over was c.args.self.now now c.self.view_is refl refl
-          (λ r. let all = c.poll.ensures.rests r in (all.0, ap told all.1)) c.poll.ensures.owes c.in-Ready-Ok.ensures.talks c.in-Ready-Ok.ensures.ends,
+          (λ r. let all = c.poll.ensures.rests r in (all.0, ap told all.1)) c.poll.ensures.owes c.in-Ready-Ok.ensures.talks
+          (rw c.in-Ready-Ok.field-0-is at c.in-Ready-Ok.ensures.ends),
       c.polled-in-Ready-Ok.ensures ∙ ap (λ b. not b && asks now) c.asks-asked.ensures,
     )

@@ -1,8 +1,8 @@
 -- Connections are polled.
-use Rattle.std.proofs.Common.{◌≡◌, ◌≢◌, refl, sym, ap, ap₂, ◌∙◌, subst, arith, ℕ, zero, suc, ◌+◌, ◌-◌, ◌^◌, ◌<◌, ◌≤◌, min, Bool, true, false, not, cond, ◌&&◌, ◌||◌, ◌⊎◌, inl, inr, List, [], ◌∷◌, ◌++◌, length, take, get_or, Option, None, Some, count_by, slice_get, slice_set, nat_eq, append_assoc, append-nil}
+use Rattle.std.proofs.Common.{◌≡◌, ◌≢◌, refl, sym, ap, ◌∙◌, subst, arith, ℕ, zero, suc, ◌+◌, ◌-◌, ◌^◌, ◌<◌, ◌≤◌, min, Bool, true, false, not, cond, ◌&&◌, ◌||◌, ◌⊎◌, inl, inr, List, [], ◌∷◌, ◌++◌, length, take, get_or, Some, slice_get, slice_set, nat_eq, append_assoc, append-nil}
 use Rattle.std.specs.List.{filter, list_all, list_any}
 use Rattle.std.proofs.lemmas.Bool.{and_parts, and_from, true≢false}
-use Rattle.std.proofs.lemmas.Option.{none-some, same_Some, slice_get_within, slice_get_read}
+use Rattle.std.proofs.lemmas.Option.{none-some, same_Some, slice_get_read, slice_get-get_or}
 use Rattle.std.proofs.lemmas.List.{take_more, take_all}
 use Rattle.std.proofs.lemmas.List.Folds.{list_any-append, list_all-append}
 use Rattle.outside_doors.specs.Counts.{added}
@@ -12,11 +12,11 @@ use Rattle.conn_future.specs.declared.stage.Stage.TheVariants as Stages
 use Rattle.conn_future.specs.Stages.{IsOver, IsUnanswered, IsMoving, IsAtRest}
 use Rattle.conn_future.specs.Talking.{TalksOn}
 use Rattle.run_door_front.specs.Keeping.{ClientTold, told_of_wire, stage_at, is_open, asks, asks_there, is_so, open_from, most_open, IsOrdered}
-use Rattle.run_door_front.specs.NextSteps.{IsPaused, IsPolled, newly, Lined, lined, IsPolledAt, ClientGoesOn, ClientsGoOn, LinesUp, IsQueue, IsPausedAt, Polls, queued, PollsAll, HasNotFallen}
-use Rattle.run_door_front.proofs.Entries.{nat_eq_same, nat_eq_is, get_set_same, get_set_other, length_set}
+use Rattle.run_door_front.specs.NextSteps.{IsPaused, IsPolled, newly, Lined, lined, IsPolledAt, ClientsGoOn, LinesUp, IsQueue, IsPausedAt, Polls, queued, PollsAll, HasNotFallen}
+use Rattle.run_door_front.proofs.Entries.{nat_eq_same, nat_eq_is, get_set_same, get_set_other}
 use Rattle.run_door_front.proofs.Doors.{not_fallen-same, not_fallen-added}
 use Rattle.run_door_front.proofs.Links.{clients-same, clients-further, clients-set, clients-at, clients-long}
-use Rattle.run_door_front.proofs.Lining.{closed_over, unasked, asks_is, open_long, opened_filter, opened_there, opened_within, queue-polled}
+use Rattle.run_door_front.proofs.Lining.{closed_over, unasked, opened_filter, opened_there, opened_within, queue-polled}
 
 -- ---- one connection
 
@@ -219,41 +219,43 @@ polls-more ns n x y z p at = record {
         by_number false is = there k is (p.paused k (among k e is))
 
 -- a loop over numbers goes on
-pub polls-step : (numbers : List ℕ) (i n : ℕ) (x y z : Lined) → i < length numbers → n ≡ get_or numbers i n → Polls (take i numbers) x y → IsPolledAt n y z
+pub polls-step : (numbers : List ℕ) (i d : ℕ) (x y z : Lined) → i < length numbers → Polls (take i numbers) x y → IsPolledAt (get_or numbers i d) y z
     → Polls (take (i + 1) numbers) x z
-polls-step numbers i n x y z inside is p at =
-    subst (λ ns. Polls ns x z) (sym (take_more numbers i n inside ∙ ap (λ k. take i numbers ++ k ∷ []) (sym is)))
-    (polls-more (take i numbers) n x y z p at)
+polls-step numbers i d x y z inside p at =
+    subst (λ ns. Polls ns x z) (sym (take_more numbers i d inside))
+    (polls-more (take i numbers) (get_or numbers i d) x y z p at)
 
 pub polls-end : (numbers : List ℕ) (i : ℕ) (x y : Lined) → length numbers ≤ i → Polls (take i numbers) x y → Polls numbers x y
 polls-end numbers i x y short p = subst (λ ns. Polls ns x y) (take_all i numbers short) p
 
+-- a number that stands in a list is among its numbers
+any_there : (ns : List ℕ) (i n : ℕ) → slice_get ns i ≡ Some n → list_any (nat_eq n) ns ≡ true
+any_there [] i n e = absurd (none-some n e)
+any_there (k ∷ ns) zero n e = ap (λ b. b || list_any (nat_eq n) ns) (ap (nat_eq n) (same_Some k n e) ∙ nat_eq_same n)
+any_there (k ∷ ns) (suc i) n e = or_right (nat_eq n k) (list_any (nat_eq n) ns) (any_there ns i n e)
+  where
+    or_right : (a b : Bool) → b ≡ true → a || b ≡ true
+    or_right true b h = refl
+    or_right false b h = h
+
 -- a number among those that are open is of a connection
-pub number_within : (ls ms : List ClientTold) (opened queue : List ℕ) (i n : ℕ) → IsOrdered ls opened queue → ClientsGoOn ls ms → i < length opened → n ≡ get_or opened i n
-    → n < length ms
-number_within ls ms opened queue i n o g inside is =
-    let there : slice_get opened i ≡ Some n = slice_get_read opened (length opened) i n refl inside is in
+pub number_within : (ls ms : List ClientTold) (opened queue : List ℕ) (i d : ℕ) → IsOrdered ls opened queue → ClientsGoOn ls ms → i < length opened
+    → get_or opened i d < length ms
+number_within ls ms opened queue i d o g inside =
+    let n = get_or opened i d in
+    let there : slice_get opened i ≡ Some n = slice_get-get_or opened i d inside in
     let among : list_any (nat_eq n) (open_from 0 ls) ≡ true = subst (λ ns. list_any (nat_eq n) ns ≡ true) o.in_order (any_there opened i n there) in
     subst (λ k. n < k) (sym (clients-long ls ms g)) (opened_within ls n among)
-  where
-    any_there : (ns : List ℕ) (i n : ℕ) → slice_get ns i ≡ Some n → list_any (nat_eq n) ns ≡ true
-    any_there [] i n e = absurd (none-some n e)
-    any_there (k ∷ ns) zero n e = ap (λ b. b || list_any (nat_eq n) ns) (ap (nat_eq n) (same_Some k n e) ∙ nat_eq_same n)
-    any_there (k ∷ ns) (suc i) n e = or_right (nat_eq n k) (list_any (nat_eq n) ns) (any_there ns i n e)
-      where
-        or_right : (a b : Bool) → b ≡ true → a || b ≡ true
-        or_right true b h = refl
-        or_right false b h = h
 
 -- ---- all that are open
 
 filter_fewer : (test : ℕ → Bool) (ns : List ℕ) → length (filter test ns) ≤ length ns
 filter_fewer test [] = omega arith
-filter_fewer test (n ∷ ns) = at (test n)
+filter_fewer test (n ∷ ns) = at (filter_fewer test ns) (test n)
   where
-    at : (b : Bool) → length (cond b (n ∷ filter test ns) (filter test ns)) ≤ suc (length ns)
-    at true = let rest = filter_fewer test ns in omega arith
-    at false = let rest = filter_fewer test ns in omega arith
+    at : length (filter test ns) ≤ length ns → (b : Bool) → length (cond b (n ∷ filter test ns) (filter test ns)) ≤ suc (length ns)
+    at rest true = omega arith
+    at rest false = omega arith
 
 pub polls-all : (test : ℕ → Bool) (ls ms : List ClientTold) (opened later queue line : List ℕ)
     → ((k : ℕ) → test k ≡ is_so is_open (slice_get ms k)) → later ≡ filter test opened
