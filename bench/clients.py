@@ -121,7 +121,7 @@ def clients():
         idle = connect()
         begun = time.monotonic()
         row("beside one who says nothing", curl("-d", TWICE), ANSWER)
-        row("who is waited for two seconds", 1.0 < time.monotonic() - begun < 5.0, True)
+        row("who holds up nobody", time.monotonic() - begun < 1.0, True)
         idle.close()
         for _ in range(20):
             peer = connect()
@@ -129,7 +129,7 @@ def clients():
             peer.sendall(post(TWICE))
             peer.close()
         row("behind twenty who reset", curl("-d", TWICE), ANSWER)
-        row("no descriptor is left", served.descriptors() <= 6, True)
+        row("no descriptor is left", served.descriptors() <= 8, True)
         row("it is still there", served.process.poll(), None)
         h2load(served)
         nginx()
@@ -189,7 +189,7 @@ def h2load(served):
     early.kill()
     early.wait()
     row("behind an h2load that was killed", curl("-d", TWICE), ANSWER)
-    row("it has left no descriptor", served.descriptors() <= 6, True)
+    row("it has left no descriptor", served.descriptors() <= 8, True)
 
 
 def wrk():
@@ -341,12 +341,12 @@ def few_files():
             peer.send(TWICE)
             told.append(peer.answer())
             peer.close()
-        row("twenty guests where twelve files are left", told, [ANSWER] * 20)
+        row("twenty guests where ten files are left", told, [ANSWER] * 20)
         row("and one behind them", curl("-d", TWICE), ANSWER)
         row("no door has failed", served.process.poll(), None)
     path = "/tmp/roqsulei-go.ol"
     with serving(path, preexec_fn=limit) as served:
-        # Of 16 files three are the streams and one is the door.
+        # Of 16 files three are the streams, two the poll and one the door.
         waiting = [Peer() for _ in range(14)]
         for number, peer in enumerate(waiting):
             peer.send(call("go", "{}", number))
