@@ -11,7 +11,7 @@ use Rattle.outside_polling.specs.Polls.{PollTold}
 use Rattle.conn_future.specs.declared.stage.Stage.TheVariants as Stages
 use Rattle.conn_future.specs.Talking.{IsTalking}
 use Rattle.outside_traits.specs.Told.{WireTold}
-use Rattle.run_door_front.specs.Keeping.{is_led, lead_of, Lead, ListenerTold, ClientTold, stage_at, is_open, wires_to, most_open}
+use Rattle.run_door_front.specs.Keeping.{is_led, lead_of, Lead, ListenerTold, ClientTold, stage_at, wires_to, most_open}
 use Rattle.run_door_front.specs.Exchanged.{IsNewLine}
 use Rattle.run_door_front.specs.NextSteps.{came_by, GoesOn, IsTried, wires_of, has_room, IsNewClient, AreNewLinks, CameInOrder, AllInTurn, doorway, TakesIn, Accepts}
 use Rattle.run_door_front.proofs.Entries.{nat_eq_same}

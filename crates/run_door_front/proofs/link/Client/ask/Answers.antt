@@ -1,6 +1,5 @@
 -- What a connection that asks hands out becomes a posting.
 use Rattle.std.proofs.Common.{ap, ◌∙◌, refl}
-use Rattle.conn_future.specs.declared.stage.Stage.TheVariants as Stages
 use Rattle.run_door_front.specs.Keeping.{stage_at}
 use Rattle.run_door_front.proofs.Handing.{some_asked, owes_asked, answers-so}
 use Rattle.run_door_front.proofs.link.Client.ask.Goals as goal
