@@ -1,12 +1,12 @@
 -- Whether bytes moved where connections are polled.
-use Rattle.std.proofs.Common.{◌≡◌, refl, sym, ap, ap₂, ◌∙◌, subst, arith, ℕ, zero, suc, ◌+◌, ◌<◌, ◌≤◌, Bool, true, false, not, cond, ◌||◌, List, [], ◌∷◌, ◌++◌, length, take, get_or, Some, slice_get, slice_set, nat_eq}
+use Rattle.std.proofs.Common.{◌≡◌, refl, sym, ap, ap₂, ◌∙◌, subst, arith, ℕ, zero, suc, ◌+◌, ◌<◌, ◌≤◌, Bool, true, false, not, cond, ◌||◌, List, [], ◌∷◌, length, take, get_or, Some, slice_get, slice_set, nat_eq}
 use Rattle.std.specs.List.{list_any}
-use Rattle.std.proofs.lemmas.Bool.{eq-eqb, eqb-true, true≢false}
+use Rattle.std.proofs.lemmas.Bool.{true≢false}
 use Rattle.std.proofs.lemmas.Option.{none-some, same_Some, slice_get-get_or}
-use Rattle.std.proofs.lemmas.List.{take_more, take_all}
+use Rattle.std.proofs.lemmas.List.{take_more}
 use Rattle.std.proofs.lemmas.List.Folds.{list_any-append}
 use Rattle.run_door_front.specs.Keeping.{ClientTold, is_open, open_from, IsOrdered}
-use Rattle.run_door_front.specs.NextSteps.{lined, Lined, IsPolledAt}
+use Rattle.run_door_front.specs.NextSteps.{Lined, IsPolledAt}
 use Rattle.run_door_front.specs.Rounds.{read_on, written_on, has_moved, any_moved}
 use Rattle.run_door_front.proofs.Entries.{nat_eq_same, nat_eq_is, get_set_other}
 

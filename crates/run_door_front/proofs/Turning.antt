@@ -1,15 +1,14 @@
 -- A look goes by whole rounds.
-use Rattle.std.proofs.Common.{◌≡◌, refl, sym, ap, ap₂, ◌∙◌, subst, arith, ℕ, zero, suc, ◌+◌, ◌-◌, ◌<◌, ◌≤◌, Bool, true, false, ◌&&◌, ◌||◌, ◌⊎◌, inl, inr, List, [], ◌∷◌, ◌++◌, length, map, nat_le, nat_lt, length-append, append-nil}
-use Rattle.std.proofs.lemmas.Bool.{and_parts, lt-ltb, ltb-true, ltb-false, true≢false}
+use Rattle.std.proofs.Common.{◌≡◌, refl, sym, ap, ap₂, ◌∙◌, subst, arith, ℕ, zero, suc, ◌+◌, ◌-◌, ◌<◌, ◌≤◌, Bool, true, false, ◌&&◌, ◌||◌, ◌⊎◌, inl, inr, List, [], ◌∷◌, ◌++◌, length, map, nat_lt, length-append, append-nil}
+use Rattle.std.proofs.lemmas.Bool.{and_parts, lt-ltb, ltb-true, ltb-false}
 use Rattle.std.specs.List.{list_all}
 use Rattle.outside_traits.specs.Told.{WireTold}
 use Rattle.office_core.specs.declared.front.Posting.{Posting}
-use Rattle.run_theorem.specs.declared.front.Next.{Next}
 use Rattle.run_theorem.specs.declared.front.Next.TheVariants as nexts
 use Rattle.run_theorem.specs.Calls.{most_postings}
 use Rattle.run_door_front.specs.Keeping.{ListenerTold, ClientTold, owes_there, is_so, owes, closed_off}
 use Rattle.run_door_front.specs.NextSteps.{all_owing, after_rest, doorway, Accepts, queued, PollsAll, Listing, listing, Hands, Going, going}
-use Rattle.run_door_front.specs.Rounds.{any_moved, has_changed, rests_of, Round, IsUndone, rested_going, Rounds, no_round, one_changed, one_moved, RoundsAndOne, most_rests, RoundsToRest, ByRounds}
+use Rattle.run_door_front.specs.Rounds.{any_moved, has_changed, rests_of, Round, IsUndone, Rounds, no_round, one_changed, one_moved, RoundsAndOne, most_rests, ByRounds}
 use Rattle.run_door_front.proofs.Links.{clients-long}
 use Rattle.run_door_front.proofs.Lining.{opened_owing}
 

@@ -1,5 +1,5 @@
 -- Doors and connections go on, turn by turn.
-use Rattle.std.proofs.Common.{refl, ◌<◌, sym, ap₂, ◌∙◌, subst, length, arith, ◌&&◌}
+use Rattle.std.proofs.Common.{refl, inl, inr, ◌<◌, sym, ap₂, ◌∙◌, subst, length, arith, ◌&&◌}
 use Rattle.std.specs.List.{list_all}
 use Rattle.run_theorem.specs.Calls.{most_postings}
 use Rattle.run_door_front.specs.Keeping.{closed_off, owes_there}
@@ -172,7 +172,8 @@ returns-then-not-moved-clause-rounds g c =
     c.in_default.ensures.1
     (ap₂ (λ ls ns. closed_off c.args.most came.doors ls && list_all (owes_there ls) ns) (sym c.deref.ensures.value) (sym c.deref-in-loop-opened.ensures.value)
     ∙ sym c.is_done.ensures ∙ c.if-is_done.false)
-    same.0 same.1 c.in_ok-moved.moved c.in_ok-moved.ensures.1 ? c.rest.new.doors c.rest.ensures
+    same.0 same.1 c.in_ok-moved.moved c.in_ok-moved.ensures.1
+    (elim c.then-not-moved.either [ inl none ↦ inl none | inr both ↦ inr both.1 ]) c.rest.new.doors c.rest.ensures
 
 pub loop-opened-preserved : goal.loop-opened-preserved
 loop-opened-preserved g c =
@@ -201,7 +202,8 @@ loop-opened-preserved g c =
           c.in_default.ensures.1
           (ap₂ (λ ls ns. closed_off c.args.most came.doors ls && list_all (owes_there ls) ns) (sym c.deref.ensures.value) (sym c.deref-in-loop-opened.ensures.value)
           ∙ sym c.is_done.ensures ∙ c.if-is_done.false)
-          same.0 same.1 c.in_ok-moved.moved c.in_ok-moved.ensures.1 ? ? c.rest.new.doors c.rest.ensures;
+          same.0 same.1 c.in_ok-moved.moved c.in_ok-moved.ensures.1 c.if-not-moved.false
+          (λ e. absurd (omega (arith, e, c.if-left-eq0.false))) c.rest.new.doors c.rest.ensures;
     }
 
 pub loop-opened-smaller : goal.loop-opened-smaller
