@@ -1,5 +1,5 @@
 -- Doors and connections as they go on in one call.
-use Rattle.std.proofs.Common.{◌≡◌, refl, sym, ap, ap₂, ◌∙◌, subst, arith, ℕ, ◌+◌, ◌-◌, ◌^◌, ◌<◌, ◌≤◌, Bool, true, false, ◌&&◌, ◌||◌, ◌⊎◌, inl, inr, List, [], ◌∷◌, ◌++◌, length, map, take, drop, set, get_or, Option, None, Some, nat_eq, nat_lt, IfSome, append_assoc, append-nil, length-append}
+use Rattle.std.proofs.Common.{◌≡◌, refl, sym, ap, ap₂, ◌∙◌, subst, arith, ℕ, zero, suc, ◌+◌, ◌-◌, ◌^◌, ◌<◌, ◌≤◌, Bool, true, false, ◌&&◌, ◌||◌, ◌⊎◌, inl, inr, List, [], ◌∷◌, ◌++◌, length, map, take, drop, set, get_or, Option, None, Some, nat_eq, nat_lt, IfSome, append_assoc, append-nil, length-append}
 use Rattle.std.proofs.lemmas.List.{map-append, length_push, length-drop, take_more, take_more_set, take_all, drop_more, drop-drop, drop-set-lt}
 use Rattle.std.proofs.lemmas.List.Sums.{sum_by-append}
 use Rattle.std.proofs.lemmas.List.Folds.{list_all-append}
@@ -14,6 +14,7 @@ use Rattle.outside_traits.specs.Told.{WireTold}
 use Rattle.run_door_front.specs.Keeping.{is_led, lead_of, Lead, ListenerTold, ClientTold, stage_at, wires_to, most_open}
 use Rattle.run_door_front.specs.Exchanged.{IsNewLine}
 use Rattle.run_door_front.specs.NextSteps.{came_by, GoesOn, IsTried, wires_of, has_room, IsNewClient, AreNewLinks, CameInOrder, AllInTurn, doorway, TakesIn, Accepts}
+use Rattle.run_door_front.specs.Rounds.{rests_of}
 use Rattle.run_door_front.proofs.Entries.{nat_eq_same}
 use Rattle.run_door_front.proofs.Leading.{sum_one, plus_none, led-still, led-push, led-both}
 use Rattle.run_door_front.proofs.Doors.{goes-same, goes-further, all-push, tried-push, tried-since}
@@ -75,6 +76,12 @@ pub unvisited-step : (ps qs : List ListenerTold) (i : ℕ) (q : ListenerTold) �
 unvisited-step ps qs i q rest =
     let one : i < i + 1 = omega arith in
     drop-set-lt (i + 1) qs i q one ∙ sym (drop-drop 1 i qs) ∙ ap (drop 1) rest ∙ drop-drop 1 i ps
+
+-- a door was set that was rested at as often
+pub rests-set : (ps : List ListenerTold) (i : ℕ) (x q : ListenerTold) → q.door.rests ≡ (get_or ps i x).door.rests → map rests_of (set ps i q) ≡ map rests_of ps
+rests-set [] i x q e = refl
+rests-set (p ∷ ps) zero x q e = ap (λ n. n ∷ map rests_of ps) e
+rests-set (p ∷ ps) (suc i) x q e = ap (λ ns. p.door.rests ∷ ns) (rests-set ps i x q e)
 
 -- ---- in the order of the doors
 

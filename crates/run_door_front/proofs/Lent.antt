@@ -5,6 +5,7 @@ use Rattle.outside_traits.specs.Told.{WireTold}
 use Rattle.run_theorem.specs.declared.front.Next.{Next}
 use Rattle.run_door_front.specs.Keeping.{ListenerTold, ClientTold, Keeping}
 use Rattle.run_door_front.specs.NextSteps.{going, going_of, Looks}
+use Rattle.run_door_front.specs.Rounds.{ByRounds}
 
 -- a vector that was written through a slice of it has what was written
 pub written_all : {A : Type 0} (n : ℕ) (now items lent : List A) → n ≡ length items → lent ≡ items → length now ≡ length lent
@@ -32,3 +33,13 @@ looks-kept IsMade which told before doors later written links opened queue traff
       subst (λ ps. Looks IsMade told.most which (going ps told.connections told.opened told.queue told.traffics) (going written links opened queue traffics)) lent
           (subst (λ ws. Looks IsMade told.most which (going doors told.connections told.opened told.queue told.traffics) (going ws links opened queue traffics)) (sym wrote) l),
     )
+
+-- by which rounds
+pub rounds-kept : (IsMade : WireTold → Type 0) (which : Next) (told before : Keeping) (doors later written : List ListenerTold) (links : List ClientTold)
+    (opened queue traffics : List ℕ) → told ≡ before → doors ≡ told.doors → written ≡ later
+    → ByRounds IsMade told.most which (going doors told.connections told.opened told.queue told.traffics) (going later links opened queue traffics)
+    → ByRounds IsMade before.most which (going_of before) (going written links opened queue traffics)
+rounds-kept IsMade which told before doors later written links opened queue traffics same lent wrote r =
+    subst (λ (k : Keeping). ByRounds IsMade k.most which (going_of k) (going written links opened queue traffics)) same
+    (subst (λ ps. ByRounds IsMade told.most which (going ps told.connections told.opened told.queue told.traffics) (going written links opened queue traffics)) lent
+    (subst (λ ws. ByRounds IsMade told.most which (going doors told.connections told.opened told.queue told.traffics) (going ws links opened queue traffics)) (sym wrote) r))

@@ -10,8 +10,10 @@ pub mod Links
 pub mod InTurn
 pub mod Lining
 pub mod PollingOne
+pub mod Moving
 pub mod Coming
 pub mod Looking
+pub mod Turning
 pub mod Handing
 pub mod Lent
 pub mod Drained

@@ -13,6 +13,7 @@ use Rattle.conn_future.specs.Stages.{IsOver, IsUnanswered, IsMoving, IsAtRest}
 use Rattle.conn_future.specs.Talking.{TalksOn}
 use Rattle.run_door_front.specs.Keeping.{ClientTold, told_of_wire, stage_at, is_open, asks, asks_there, is_so, open_from, most_open, IsOrdered}
 use Rattle.run_door_front.specs.NextSteps.{IsPaused, IsPolled, newly, Lined, lined, IsPolledAt, ClientsGoOn, LinesUp, IsQueue, IsPausedAt, Polls, queued, PollsAll, HasNotFallen}
+use Rattle.run_door_front.specs.Rounds.{has_moved}
 use Rattle.run_door_front.proofs.Entries.{nat_eq_same, nat_eq_is, get_set_same, get_set_other}
 use Rattle.run_door_front.proofs.Doors.{not_fallen-same, not_fallen-added}
 use Rattle.run_door_front.proofs.Links.{clients-same, clients-further, clients-set, clients-at, clients-long}
@@ -291,16 +292,20 @@ polls-all test ls ms opened later queue line is kept o p = record {
 
 -- ---- the connection of a number
 
-pub polled-at : (links : List ClientTold) (queue line : List ℕ) (n : ℕ) (l later : ClientTold) → n < length links → l ≡ get_or links n l → IsPolled l later
-    → line ≡ queue ++ newly n l later → IsPolledAt n (lined links queue) (lined (slice_set links n later) line)
-polled-at links queue line n l later inside value p grown = record {
-  link = l;
-  later = later;
-  there = slice_get_read links (length links) n l refl inside value;
-  set = refl;
-  polled = p;
-  line = grown;
-}
+pub polled-at : (links : List ClientTold) (queue line : List ℕ) (n : ℕ) (l later : ClientTold) (moved : Bool) → n < length links → l ≡ get_or links n l
+    → IsPolled l later → line ≡ queue ++ newly n l later → moved ≡ has_moved l later
+    → (at : IsPolledAt n (lined links queue) (lined (slice_set links n later) line)) × (moved ≡ has_moved at.link at.later)
+polled-at links queue line n l later moved inside value p grown is = (
+  record {
+    link = l;
+    later = later;
+    there = slice_get_read links (length links) n l refl inside value;
+    set = refl;
+    polled = p;
+    line = grown;
+  },
+  is,
+)
 
 -- it came to ask or not
 pub newly-yes : (n : ℕ) (l m : ClientTold) (b : Bool) → b ≡ (not (asks l) && asks m) → b ≡ true → newly n l m ≡ n ∷ []

@@ -3,3 +3,4 @@ pub mod Exchanged
 pub mod AnswerSteps
 pub mod NextSteps
 pub mod Draining
+pub mod Rounds

@@ -1,5 +1,5 @@
 //! Connections come in at doors.
-ghost use Rattle.std.specs.Prelude.{◌≡◌, ◌∷◌, [], IfNone, IfSome, IfOk, MatchOption, None, length};
+ghost use Rattle.std.specs.Prelude.{◌≡◌, ◌∷◌, [], IfNone, IfSome, IfOk, MatchOption, None, length, map};
 ghost use Rattle.outside_doors.specs.Counts.{added, has_ended};
 ghost use Rattle.outside_doors.specs.Attempts.{ComesAt};
 ghost use Rattle.conn_future.specs.declared.stage.Stage.TheVariants as Stages;
@@ -7,6 +7,7 @@ ghost use Rattle.conn_future.specs.Stages.{stage_of};
 ghost use Rattle.conn_future.specs.Talking.{IsTalking};
 ghost use Rattle.run_door_front.specs.Keeping.{is_open as is_open_now};
 ghost use Rattle.run_door_front.specs.NextSteps.{Accepts, GoesOn, IsTried, doorway, has_room as room, rested_at};
+ghost use Rattle.run_door_front.specs.Rounds.{rests_of};
 
 use crate::link::Client;
 use crate::port::Listener;
@@ -30,7 +31,8 @@ pub(crate) fn accept_all<D: Door + Drop>(
 ) -> Result<(), AllocError>
     ensures { IfOk result (λ _. Accepts (λ line. (wire : D.W) × (line ≡ (D.W.told wire).wire)) most
         (doorway doors.old connections.old.items opened.old.items)
-        (doorway doors.new connections.new.items opened.new.items)) }
+        (doorway doors.new connections.new.items opened.new.items)
+        × (map rests_of doors.new ≡ map rests_of doors.old)) }
 {
     for door in doors.iter_mut() {
         accept_at(alloc, door, connections, opened, most)?;
@@ -48,7 +50,8 @@ fn accept_at<D: Door + Drop>(
 ) -> Result<(), AllocError>
     ensures { IfOk result (λ _. Accepts (λ line. (wire : D.W) × (line ≡ (D.W.told wire).wire)) most
         (doorway (door.old ∷ []) connections.old.items opened.old.items)
-        (doorway (door.new ∷ []) connections.new.items opened.new.items)) }
+        (doorway (door.new ∷ []) connections.new.items opened.new.items)
+        × (door.new.door.rests ≡ door.old.door.rests)) }
 {
     while has_room(connections.len(), opened.len(), most) {
         match door.accept() {
@@ -88,6 +91,7 @@ impl<D: Door + Drop> Listener<D> {
     fn accept(&mut self) -> Option<D::W>
         ensures goes { GoesOn self.old self.new }
         ensures nobody { IfNone result (IsTried self.old self.new) }
+        ensures rests { self.new.door.rests ≡ self.old.door.rests }
         ensures wires { MatchOption result (self.new.door.wires ≡ self.old.door.wires)
             (λ _. self.new.door.wires ≡ added self.old.door.wires 1) }
         ensures comes { IfSome result (λ wire. ComesAt self.old.door.place (D.W.told wire)) }

@@ -5,6 +5,7 @@ ghost use Rattle.std.specs.List.{list_all};
 ghost use Rattle.outside_doors.specs.Counts.{has_ended};
 ghost use Rattle.run_door_front.specs.Keeping.{ListenerTold, IsOrdered, closed_off, owes_there};
 ghost use Rattle.run_door_front.specs.NextSteps.{Looks, after_rest, going, going_of, rested_first, rested_open};
+ghost use Rattle.run_door_front.specs.Rounds.{ByRounds};
 
 use crate::accepting::accept_all;
 use crate::kept::Kept;
@@ -28,6 +29,8 @@ impl<D: Door + Drop> Kept<D> {
             × Looks (λ line. (wire : D.W) × (line ≡ (D.W.told wire).wire)) self.old.most next (going_of self.old)
             (going_of self.new))
             (λ _. self.new.spent ≡ true) }
+        ensures rounds { IfOk result (λ next. ByRounds (λ line. (wire : D.W) × (line ≡ (D.W.told wire).wire))
+            self.old.most next (going_of self.old) (going_of self.new)) }
         ensures ordered { OnOk result (IsOrdered self.new.connections self.new.opened self.new.queue) }
         // A front of which memory ran out answers want of memory from then on.
         ensures refuses { self.old.spent ≡ true → IsErr result × (self.new.spent ≡ true) }
@@ -64,7 +67,10 @@ fn look<D: Door + Drop>(
     most: u32,
 ) -> Result<Next, AllocError>
     requires { IsOrdered connections.old.items opened.old.items queue.old.items }
-    ensures { IfOk result (λ next. Looks (λ line. (wire : D.W) × (line ≡ (D.W.told wire).wire)) most next
+    ensures looks { IfOk result (λ next. Looks (λ line. (wire : D.W) × (line ≡ (D.W.told wire).wire)) most next
+        (going doors.old connections.old.items opened.old.items queue.old.items traffics.old.items)
+        (going doors.new connections.new.items opened.new.items queue.new.items traffics.new.items)) }
+    ensures rounds { IfOk result (λ next. ByRounds (λ line. (wire : D.W) × (line ≡ (D.W.told wire).wire)) most next
         (going doors.old connections.old.items opened.old.items queue.old.items traffics.old.items)
         (going doors.new connections.new.items opened.new.items queue.new.items traffics.new.items)) }
 {

@@ -1,11 +1,12 @@
 //! Connections are polled, and the next request in line becomes a posting.
-ghost use Rattle.std.specs.Prelude.{◌≡◌, ◌<◌, ◌&&◌, not, true, length, IfOk};
+ghost use Rattle.std.specs.Prelude.{◌≡◌, ◌<◌, ◌&&◌, ◌||◌, not, true, length, nat_eq, IfOk};
 ghost use Rattle.std.specs.List.{filter};
 ghost use Rattle.conn_future.specs.Stages.{stage_of};
 ghost use Rattle.conn_future.specs.declared.stage.Stage.TheVariants as Stages;
 ghost use Rattle.run_door_front.specs.Keeping.{IsOrdered, asks as asking, asks_there, is_open_there};
 ghost use Rattle.run_door_front.specs.NextSteps.{Answers, Hands, IsPolled, IsPolledAt, Polls, PollsAll, lined};
 ghost use Rattle.run_door_front.specs.NextSteps.{queued, listing};
+ghost use Rattle.run_door_front.specs.Rounds.{read_on, written_on, has_moved, any_moved};
 
 use crate::link::{Client, PendingReply};
 use conn_future::Stage;
@@ -31,9 +32,10 @@ pub(crate) fn poll_all<W: PollWire + Drop>(
     queue: &mut Vec<usize>,
 ) -> Result<bool, AllocError>
     requires { IsOrdered connections.old.items opened.old.items queue.old.items }
-    ensures { IfOk result (λ _. PollsAll
+    ensures { IfOk result (λ moved. PollsAll
         (queued connections.old.items opened.old.items queue.old.items)
-        (queued connections.new.items opened.new.items queue.new.items)) }
+        (queued connections.new.items opened.new.items queue.new.items)
+        × (moved ≡ any_moved connections.old.items connections.new.items)) }
 {
     let moved = poll_open(connections, opened.as_slice(), queue)?;
     keep_open(connections, opened);
@@ -54,9 +56,10 @@ fn poll_open<W: PollWire + Drop>(
     queue: &mut Vec<usize>,
 ) -> Result<bool, AllocError>
     requires { IsOrdered connections.old.items opened.now queue.old.items }
-    ensures { IfOk result (λ _. Polls opened.now
+    ensures { IfOk result (λ moved. Polls opened.now
         (lined connections.old.items queue.old.items)
-        (lined connections.new.items queue.new.items)) }
+        (lined connections.new.items queue.new.items)
+        × (moved ≡ any_moved connections.old.items connections.new.items)) }
 {
     let mut moved = false;
     for number in opened {
@@ -72,9 +75,10 @@ fn poll_at<W: PollWire + Drop>(
     queue: &mut Vec<usize>,
 ) -> Result<bool, AllocError>
     requires { number < length connections.old.items }
-    ensures { IfOk result (λ _. IsPolledAt number
+    ensures { IfOk result (λ moved. (at : IsPolledAt number
         (lined connections.old.items queue.old.items)
-        (lined connections.new.items queue.new.items)) }
+        (lined connections.new.items queue.new.items))
+        × (moved ≡ has_moved at.link at.later)) }
 {
     let Polled { moved, asks } = connections[number].poll()?;
     if asks {
@@ -122,7 +126,7 @@ impl<W: PollWire + Drop> Client<W> {
     /// Reads and writes as far as the wire goes.
     pub(crate) fn poll(&mut self) -> Result<Polled, AllocError>
         ensures { IfOk result (λ came. IsPolled self.old self.new
-            × (came.asks ≡ (not (asking self.old) && asking self.new))) }
+            × (came.asks ≡ (not (asking self.old) && asking self.new)) × (came.moved ≡ has_moved self.old self.new)) }
     {
         let asked = self.asks();
         let read = self.task.read().len();
@@ -136,7 +140,9 @@ impl<W: PollWire + Drop> Client<W> {
 
     /// What a poll came to, before which the connection asked or not, and so many bytes had been read and written.
     fn polled(&self, asked: bool, read: usize, written: usize) -> Polled
-        ensures { result.asks ≡ (not asked && asking self.now) }
+        ensures asks { result.asks ≡ (not asked && asking self.now) }
+        ensures moved { result.moved ≡
+            (not (nat_eq (read_on self.now) read) || not (nat_eq (written_on self.now) written)) }
     {
         Polled {
             moved: self.task.read().len() != read || self.task.written().len() != written,

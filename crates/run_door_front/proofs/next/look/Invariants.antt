@@ -2,13 +2,18 @@
 use Rattle.std.proofs.Common.{◌≡◌, ◌+◌}
 use Rattle.run_door_front.specs.NextSteps.{Goes, going}
 use Rattle.run_door_front.proofs.Looking.{left}
+use Rattle.run_door_front.proofs.Turning.{HasTurned}
 use Rattle.run_door_front.proofs.next.look.Given as goal
 
 abbrev pub invariant-loop-opened : goal.invariant-loop-opened
-invariant-loop-opened g l =
-    Goes (λ line. (wire : g.row.D-W.Denot) × (line ≡ (g.D.W.PollWire.told wire).wire)) l.most
-    (going l.fn.doors l.fn.connections.items l.fn.opened.items l.fn.queue.items l.fn.traffics.items)
-    (going l.doors l.connections.items l.opened.items l.queue.items l.traffics.items)
+invariant-loop-opened g l = record {
+  goes : Goes (λ line. (wire : g.row.D-W.Denot) × (line ≡ (g.D.W.PollWire.told wire).wire)) l.most
+      (going l.fn.doors l.fn.connections.items l.fn.opened.items l.fn.queue.items l.fn.traffics.items)
+      (going l.doors l.connections.items l.opened.items l.queue.items l.traffics.items);
+  turned : HasTurned (λ line. (wire : g.row.D-W.Denot) × (line ≡ (g.D.W.PollWire.told wire).wire)) l.most l.left
+      (going l.fn.doors l.fn.connections.items l.fn.opened.items l.fn.queue.items l.fn.traffics.items)
+      (going l.doors l.connections.items l.opened.items l.queue.items l.traffics.items);
+}
 
 -- each turn but the last has somebody come or a connection end, or it is counted
 abbrev pub decreases-loop-opened : goal.decreases-loop-opened

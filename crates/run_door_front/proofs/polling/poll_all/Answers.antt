@@ -9,8 +9,10 @@ pub poll_open-requires : goal.poll_open-requires
 poll_open-requires g c = subst (λ ns. IsOrdered c.args.connections.now.items ns c.args.queue.now.items) (sym c.as_slice.ensures.value) c.requires
 
 pub returns : goal.returns
-returns g c =
-    polls-all (is_open_there c.deref.result.now) c.args.connections.now.items c.poll_open.new.connections.items c.args.opened.now.items c.keep_open.new.numbers.items
-    c.args.queue.now.items c.poll_open.new.queue.items (λ k. ap (λ ls. is_open_there ls k) c.deref.ensures.value) c.keep_open.ensures c.requires
-    (subst (λ ns. Polls ns (lined c.args.connections.now.items c.args.queue.now.items) (lined c.poll_open.new.connections.items c.poll_open.new.queue.items))
-    c.as_slice.ensures.value c.in_ok-moved.ensures)
+returns g c = (
+  polls-all (is_open_there c.deref.result.now) c.args.connections.now.items c.poll_open.new.connections.items c.args.opened.now.items c.keep_open.new.numbers.items
+      c.args.queue.now.items c.poll_open.new.queue.items (λ k. ap (λ ls. is_open_there ls k) c.deref.ensures.value) c.keep_open.ensures c.requires
+      (subst (λ ns. Polls ns (lined c.args.connections.now.items c.args.queue.now.items) (lined c.poll_open.new.connections.items c.poll_open.new.queue.items))
+      c.as_slice.ensures.value c.in_ok-moved.ensures.0),
+  c.in_ok-moved.ensures.1,
+)

@@ -1,6 +1,6 @@
 -- What a look came to is what the call came to.
 use Rattle.run_door_front.specs.NextSteps.{going}
-use Rattle.run_door_front.proofs.Lent.{written_all, looks-kept}
+use Rattle.run_door_front.proofs.Lent.{written_all, looks-kept, rounds-kept}
 use Rattle.run_door_front.proofs.Looking.{looks-ordered}
 use Rattle.run_door_front.proofs.kept.Kept.next_posting.Goals as goal
 
@@ -14,7 +14,16 @@ returns-clause-looks g c =
     c.self.view_is c.if-self.false c.deref_mut.ensures.value
     (written_all c.self.inside.doors.len c.look.new.doors c.self.inside.doors.items c.deref_mut.result.now c.self.inside.doors.ok.0 c.deref_mut.ensures.value
     c.look.auto.doors)
-    c.in_ok-next.ensures
+    c.in_ok-next.ensures.looks
+
+pub returns-clause-rounds : goal.returns-clause-rounds
+returns-clause-rounds g c =
+    rounds-kept _ c.in_ok-next.next _ c.args.self.now c.deref_mut.result.now c.look.new.doors _ c.look.new.connections.items c.look.new.opened.items
+    c.look.new.queue.items c.look.new.traffics.items
+    c.self.view_is c.deref_mut.ensures.value
+    (written_all c.self.inside.doors.len c.look.new.doors c.self.inside.doors.items c.deref_mut.result.now c.self.inside.doors.ok.0 c.deref_mut.ensures.value
+    c.look.auto.doors)
+    c.in_ok-next.ensures.rounds
 
 pub returns-clause-ordered : goal.returns-clause-ordered
 returns-clause-ordered g c =
@@ -22,7 +31,7 @@ returns-clause-ordered g c =
     looks-ordered _ x.most c.in_ok-next.next
     (going c.deref_mut.result.now x.connections.items x.opened.items x.queue.items x.traffics.items)
     (going c.look.new.doors c.look.new.connections.items c.look.new.opened.items c.look.new.queue.items c.look.new.traffics.items)
-    c.in_ok-next.ensures (c.self.invariant c.if-self.false)
+    c.in_ok-next.ensures.looks (c.self.invariant c.if-self.false)
 
 pub invariant_of-self-2 : goal.invariant_of-self-2
 invariant_of-self-2 g c = λ _.
@@ -30,4 +39,4 @@ invariant_of-self-2 g c = λ _.
     looks-ordered _ x.most c.in_ok-next.next
     (going c.deref_mut.result.now x.connections.items x.opened.items x.queue.items x.traffics.items)
     (going c.look.new.doors c.look.new.connections.items c.look.new.opened.items c.look.new.queue.items c.look.new.traffics.items)
-    c.in_ok-next.ensures (c.self.invariant c.if-self.false)
+    c.in_ok-next.ensures.looks (c.self.invariant c.if-self.false)

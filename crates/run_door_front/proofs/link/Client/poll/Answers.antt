@@ -1,8 +1,9 @@
 -- A poll of a connection goes as far as its wire goes.
-use Rattle.std.proofs.Common.{◌&&◌, not, refl, ap, ◌∙◌}
+use Rattle.std.proofs.Common.{◌&&◌, not, refl, ap, ◌∙◌, length}
 use Rattle.conn_future.specs.Talking.{seen}
 use Rattle.run_door_front.specs.Keeping.{ClientTold, asks}
 use Rattle.run_door_front.proofs.PollingOne.{polled-pending, polled-over}
+use Rattle.run_door_front.proofs.Moving.{moved-so}
 use Rattle.run_door_front.proofs.link.Client.poll.Goals as goal
 
 pub returns-in-Pending : goal.returns-in-Pending
@@ -14,7 +15,8 @@ returns-in-Pending g c =
     let now : ClientTold = record { service = x.service; seen = seen y.kept (told y.wire); waits = (told y.wire).waits; pending = x.pending } in (
       polled-pending was c.args.self.now now c.self.view_is refl refl
           (λ r. let all = c.poll.ensures.rests r in (all.0, ap told all.1)) c.poll.ensures.owes c.in-Pending.ensures.talks c.in-Pending.ensures.ends,
-      c.polled.ensures ∙ ap (λ b. not b && asks now) c.asks-asked.ensures,
+      c.polled.ensures.asks ∙ ap (λ b. not b && asks now) c.asks-asked.ensures,
+      moved-so was c.args.self.now now _ _ _ c.self.view_is (ap length c.read-read.ensures) (ap length c.written-written.ensures) c.polled.ensures.moved,
     )
 
 pub returns-in-Ready-Ok : goal.returns-in-Ready-Ok
@@ -27,5 +29,6 @@ returns-in-Ready-Ok g c =
       polled-over was c.args.self.now now c.self.view_is refl refl
           (λ r. let all = c.poll.ensures.rests r in (all.0, ap told all.1)) c.poll.ensures.owes c.in-Ready-Ok.ensures.talks
           (rw c.in-Ready-Ok.field-0-is at c.in-Ready-Ok.ensures.ends),
-      c.polled-in-Ready-Ok.ensures ∙ ap (λ b. not b && asks now) c.asks-asked.ensures,
+      c.polled-in-Ready-Ok.ensures.asks ∙ ap (λ b. not b && asks now) c.asks-asked.ensures,
+      moved-so was c.args.self.now now _ _ _ c.self.view_is (ap length c.read-read.ensures) (ap length c.written-written.ensures) c.polled-in-Ready-Ok.ensures.moved,
     )

@@ -1,0 +1,125 @@
+-- How a front over doors goes by whole rounds until its next posting.
+use Rattle.std.specs.Prelude.{◌≡◌, ◌⊎◌, ℕ, suc, ◌-◌, ◌^◌, ◌<◌, ◌≤◌, Bool, true, false, not, ◌&&◌, ◌||◌}
+use Rattle.std.specs.Prelude.{List, [], ◌∷◌, length, map, nat_eq, nat_lt}
+use Rattle.office_core.specs.declared.front.Posting.{Posting}
+use Rattle.run_theorem.specs.declared.front.Next.{Next}
+use Rattle.run_theorem.specs.declared.front.Next.TheVariants as next
+use Rattle.run_theorem.specs.Calls.{most_postings}
+use Rattle.outside_traits.specs.Told.{WireTold}
+use Rattle.run_door_front.specs.Keeping.{ListenerTold, ClientTold, closed_off}
+use Rattle.run_door_front.specs.NextSteps.{after_rest, all_owing, Doorway, doorway, Accepts, queued, PollsAll}
+use Rattle.run_door_front.specs.NextSteps.{listing, Hands, Going}
+
+-- ---- what moves
+
+-- how many bytes were read on a connection
+abbrev pub read_on : ClientTold → ℕ
+read_on link = length link.seen.kept.read.items
+
+-- how many bytes were written on it
+abbrev pub written_on : ClientTold → ℕ
+written_on link = length link.seen.kept.written.items
+
+-- bytes moved on a connection: not so many were read as before, or not so many were written
+abbrev pub has_moved : ClientTold → ClientTold → Bool
+has_moved before now =
+    not (nat_eq (read_on now) (read_on before)) || not (nat_eq (written_on now) (written_on before))
+
+-- bytes moved on one of these connections, or there are not so many as before
+abbrev pub any_moved : List ClientTold → List ClientTold → Bool
+any_moved [] [] = false
+any_moved [] (m ∷ ms) = true
+any_moved (l ∷ ls) [] = true
+any_moved (l ∷ ls) (m ∷ ms) = has_moved l m || any_moved ls ms
+
+-- somebody came, or fewer connections are open than before
+abbrev pub has_changed : Going → Going → Bool
+has_changed before now =
+    nat_lt (length before.connections) (length now.connections) || nat_lt (length now.opened) (length before.opened)
+
+-- ---- rounds
+
+-- how often was rested at a door
+abbrev pub rests_of : ListenerTold → ℕ
+rests_of port = port.door.rests
+
+-- A round: whoever comes at a door is let in, and after that all open connections are polled. There is no rest in it.
+pub record Round (IsMade : WireTold → Type 0) (most : ℕ) (before now : Going) : Type 0 where
+  pub way : Doorway
+  pub accepts : Accepts IsMade most (doorway before.doors before.connections before.opened) way
+  pub polls : PollsAll (queued way.connections way.opened before.queue) (queued now.connections now.opened now.queue)
+  pub doors : now.doors ≡ way.doors
+  pub rests : map rests_of now.doors ≡ map rests_of before.doors
+  pub traffics : now.traffics ≡ before.traffics
+
+-- No request is whole, and one may still come.
+pub record IsUndone (most : ℕ) (now : Going) : Type 0 where
+  pub none : now.queue ≡ []
+  pub some : (closed_off most now.doors now.connections && all_owing now.connections) ≡ false
+
+-- after a rest: at the first door that has not ended, or, where all have, at the first of all
+abbrev pub rested_going : Going → Going
+rested_going x = record x { doors = after_rest x.doors }
+
+-- Rounds one after the other, each until no request is whole and one may still come. After one in which somebody came
+-- or went the next follows at once; after another one, in which bytes moved, there is a rest. So often there was one.
+pub data Rounds (IsMade : WireTold → Type 0) (most : ℕ) (before : Going) : ℕ → Going → Type 0 where
+  -- no round
+  no_round : Rounds IsMade most before 0 before
+  -- one more, in which somebody came or went
+  one_changed : (rests : ℕ) (mid now : Going) → Rounds IsMade most before rests mid → Round IsMade most mid now
+      → IsUndone most now → has_changed mid now ≡ true → Rounds IsMade most before rests now
+  -- one more, in which nobody did and bytes moved, and a rest
+  one_moved : (rests : ℕ) (mid now : Going) → Rounds IsMade most before rests mid → Round IsMade most mid now
+      → IsUndone most now → has_changed mid now ≡ false → any_moved mid.connections now.connections ≡ true
+      → Rounds IsMade most before (suc rests) (rested_going now)
+
+-- There were fewer postings than may be. Rounds were made, with so many rests, and one more, after which there is no
+-- rest.
+pub record RoundsAndOne (IsMade : WireTold → Type 0) (most : ℕ) (before now : Going) : Type 0 where
+  pub fewer : length before.traffics < most_postings
+  pub rests : ℕ
+  pub start : Going
+  pub rounds : Rounds IsMade most before rests start
+  pub last : Round IsMade most start now
+
+-- ---- what they come to
+
+-- The request that has been whole for longest is posted, and nothing else is done.
+pub record HandsFirst (p : Posting) (before now : Going) : Type 0 where
+  pub number : ℕ
+  pub first : before.queue ≡ number ∷ now.queue
+  pub hands : Hands number p
+      (listing before.connections before.traffics) (listing now.connections now.traffics)
+  pub doors : now.doors ≡ before.doors
+  pub opened : now.opened ≡ before.opened
+
+-- the most rests between the rounds of one call
+abbrev pub most_rests : ℕ
+most_rests = 2 ^ 64 - 1
+
+-- Rounds were made until one in which nobody came or went and nothing moved, or until there had been the most rests
+-- before it; no request is whole then, one may still come, and there is a rest.
+pub record RoundsToRest (IsMade : WireTold → Type 0) (most : ℕ) (before now : Going) : Type 0 where
+  pub mid : Going
+  pub rounds : RoundsAndOne IsMade most before mid
+  pub undone : IsUndone most mid
+  pub unchanged : has_changed rounds.start mid ≡ false
+  pub still : (any_moved rounds.start.connections mid.connections ≡ false) ⊎ (rounds.rests ≡ most_rests)
+  pub rested : now ≡ rested_going mid
+
+-- Rounds were made until one after which no request is whole and none can come any more.
+pub record RoundsToEnd (IsMade : WireTold → Type 0) (most : ℕ) (before now : Going) : Type 0 where
+  pub rounds : RoundsAndOne IsMade most before now
+  pub none : now.queue ≡ []
+  pub over : closed_off most now.doors now.connections ≡ true
+  pub owing : all_owing now.connections ≡ true
+
+-- What the call came to, by rounds: a posting after the first round after which a request is whole, without a rest
+-- before it; nothing yet, or nothing any more.
+abbrev pub ByRounds : (WireTold → Type 0) → ℕ → Next → Going → Going → Type 0
+ByRounds IsMade most (next.Posting p) before now =
+    (mid : Going) × RoundsAndOne IsMade most before mid × HandsFirst p mid now
+ByRounds IsMade most next.NotYet before now = RoundsToRest IsMade most before now
+ByRounds IsMade most next.End before now =
+    ((most_postings ≤ length before.traffics) × (now ≡ before)) ⊎ RoundsToEnd IsMade most before now
