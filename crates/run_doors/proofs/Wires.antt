@@ -125,7 +125,8 @@ module _ (IsMade : WireTold → Type 0) where
   wires_are (l ∷ ls) (v ∷ vs) k = (wire_is l v k.0, wires_are ls vs k.1)
 
   -- what was due was written on each
-  pub written_out : (ls ms : List ClientTold) (vs : List RunConnection) → AreClients IsMade ms vs → HaveDrained ls ms → AllZip IsWrittenOut vs (map wire_of ms)
+  pub written_out : (ls ms : List ClientTold) (vs : List RunConnection) → AreClients IsMade ms vs → HaveDrained ls ms
+      → AllZip IsWrittenOut vs (map wire_of ms)
   written_out [] [] [] k h = tt
   written_out [] [] (v ∷ vs) k h = absurd k
   written_out [] (m ∷ ms) vs k h = absurd h
