@@ -8,11 +8,12 @@ use Rattle.outside_doors.specs.Counts.{added, has_ended}
 use Rattle.run_theorem.specs.Lines.{most_waits}
 use Rattle.conn_future.specs.declared.stage.Stage.{Stage}
 use Rattle.conn_future.specs.declared.stage.Stage.TheVariants as Stages
-use Rattle.run_door_front.specs.Keeping.{ListenerTold, ClientTold, Keeping, stage_at}
+use Rattle.run_door_front.specs.Keeping.{ListenerTold, ClientTold, Keeping, stage_at, rests_at}
 use Rattle.run_door_front.specs.NextSteps.{ClientGoesOn, ClientsGoOn, IsPaused, IsPolled, rested_at, rested_first, rested_open, after_rest}
 use Rattle.run_door_front.specs.Draining.{writes_at, is_writing, any_writing, WritesOn, AreWritten, has_drained, HaveDrained, AreRested, Drains}
 use Rattle.run_door_front.proofs.Doors.{not_fallen, not_fallen-added, fallen_further}
 use Rattle.run_door_front.proofs.Links.{client-same, client-further, clients-same}
+use Rattle.run_door_front.proofs.Resting.{rests-rested}
 
 writes_is : (s : Stage) → writes_at s ≡ true → s ≡ Stages.Writes
 writes_is Stages.Reads e = absurd (true≢false (sym e))
@@ -49,10 +50,22 @@ writes-polled l m writes p = record { goes = p.goes; wrote = λ w. writes; waits
 
 -- ---- rounds
 
+-- a count to which nothing was added
+none_added : (w cap : ℕ) → min (w + 0) cap ≤ w
+none_added w cap = omega arith
+
+-- one more was added to a count
+one_added : (n w m cap k : ℕ) → min (w + n) cap ≤ m → min (m + 1) cap ≤ k → min (w + (n + 1)) cap ≤ k
+one_added n w m cap k h more = omega arith
+
+-- as many were added to a count as may be, or more
+all_added : (n most w cap m : ℕ) → most ≤ n → min (w + n) cap ≤ m → min (w + most) cap ≤ m
+all_added n most w cap m h more = omega arith
+
 -- where a text still goes out the wire could move nothing in each of so many rounds
 pub record Rounds (n : ℕ) (before now : ClientTold) : Type 0 where
   pub goes : ClientGoesOn before now
-  pub waits : is_writing now ≡ true → min n (2 ^ 64 - 1) ≤ now.waits
+  pub waits : is_writing now ≡ true → added before.waits n ≤ now.waits
 
 abbrev pub AllRounds : ℕ → List ClientTold → List ClientTold → Type 0
 AllRounds n [] [] = Unit {0}
@@ -60,17 +73,11 @@ AllRounds n [] (m ∷ ms) = ⊥
 AllRounds n (l ∷ ls) [] = ⊥
 AllRounds n (l ∷ ls) (m ∷ ms) = Rounds n l m × AllRounds n ls ms
 
-none_yet : (cap w : ℕ) → min 0 cap ≤ w
-none_yet cap w = omega arith
-
-next_round : (n w cap v : ℕ) → min n cap ≤ w → min (w + 1) cap ≤ v → min (n + 1) cap ≤ v
-next_round n w cap v h k = omega arith
-
 pub rounds-none : (ls : List ClientTold) → AllRounds 0 ls ls
 rounds-none [] = tt
-rounds-none (l ∷ ls) = (record { goes = client-same l; waits = λ w. none_yet (2 ^ 64 - 1) l.waits }, rounds-none ls)
+rounds-none (l ∷ ls) = (record { goes = client-same l; waits = λ w. none_added l.waits (2 ^ 64 - 1) }, rounds-none ls)
 
-rounds-more : (n : ℕ) (ls ms ns : List ClientTold) → AllRounds n ls ms → AreWritten ms ns → AllRounds (n + 1) ls ns
+pub rounds-more : (n : ℕ) (ls ms ns : List ClientTold) → AllRounds n ls ms → AreWritten ms ns → AllRounds (n + 1) ls ns
 rounds-more n [] [] [] r w = tt
 rounds-more n [] [] (k ∷ ns) r w = absurd w
 rounds-more n [] (m ∷ ms) ns r w = absurd r
@@ -79,7 +86,7 @@ rounds-more n (l ∷ ls) (m ∷ ms) [] r w = absurd w
 rounds-more n (l ∷ ls) (m ∷ ms) (k ∷ ns) r w = (
   record {
     goes = client-further l m k r.0.goes w.0.goes;
-    waits = λ e. next_round n m.waits (2 ^ 64 - 1) k.waits (r.0.waits (w.0.wrote e)) (w.0.waits e);
+    waits = λ e. one_added n l.waits m.waits (2 ^ 64 - 1) k.waits (r.0.waits (w.0.wrote e)) (w.0.waits e);
   },
   rounds-more n ls ms ns r.1 w.1,
 )
@@ -91,26 +98,26 @@ rounds_go n (l ∷ ls) [] r = absurd r
 rounds_go n (l ∷ ls) (m ∷ ms) r = (r.0.goes, rounds_go n ls ms r.1)
 
 -- no text goes out
-none_writes : (ls : List ClientTold) → any_writing ls ≡ false → HaveDrained ls
-none_writes [] e = tt
-none_writes (l ∷ ls) e = at (λ h. none_writes ls h) (is_writing l) refl e
+none_writes : (n : ℕ) (ls ms : List ClientTold) → AllRounds n ls ms → any_writing ms ≡ false → HaveDrained ls ms
+none_writes n [] [] r e = tt
+none_writes n [] (m ∷ ms) r e = absurd r
+none_writes n (l ∷ ls) [] r e = absurd r
+none_writes n (l ∷ ls) (m ∷ ms) r e = at (λ h. none_writes n ls ms r.1 h) (is_writing m) refl e
   where
-    at : (any_writing ls ≡ false → HaveDrained ls) → (b : Bool) → is_writing l ≡ b → b || any_writing ls ≡ false → has_drained l × HaveDrained ls
+    at : (any_writing ms ≡ false → HaveDrained ls ms) → (b : Bool) → is_writing m ≡ b → b || any_writing ms ≡ false
+        → has_drained l m × HaveDrained ls ms
     at rest true is h = absurd (true≢false h)
-    at rest false is h = (inl (writes_not (stage_at l) is), rest h)
+    at rest false is h = (inl (writes_not (stage_at m) is), rest h)
 
 -- or as many rounds were made as may be
-all_rounds : (n : ℕ) (ls ms : List ClientTold) → most_waits ≤ n → AllRounds n ls ms → HaveDrained ms
+all_rounds : (n : ℕ) (ls ms : List ClientTold) → most_waits ≤ n → AllRounds n ls ms → HaveDrained ls ms
 all_rounds n [] [] h r = tt
 all_rounds n [] (m ∷ ms) h r = absurd r
 all_rounds n (l ∷ ls) [] h r = absurd r
 all_rounds n (l ∷ ls) (m ∷ ms) h r = (at (is_writing m) refl, all_rounds n ls ms h r.1)
   where
-    enough : min n (2 ^ 64 - 1) ≤ m.waits → most_waits ≤ m.waits
-    enough k = omega arith
-
-    at : (b : Bool) → is_writing m ≡ b → has_drained m
-    at true is = inr (enough (r.0.waits is))
+    at : (b : Bool) → is_writing m ≡ b → has_drained l m
+    at true is = inr (all_added n most_waits l.waits (2 ^ 64 - 1) m.waits h (r.0.waits is))
     at false is = inl (writes_not (stage_at m) is)
 
 -- ---- doors that are rested at
@@ -153,30 +160,48 @@ rested_after ps = at (list_all (λ (p : ListenerTold). has_ended p.door) ps)
     at true = rested_by_first ps
     at false = rested_by_open ps
 
+-- a door is left where there was one
+rested_some : (ps qs : List ListenerTold) → AreRested ps qs → 0 < length ps → 0 < length qs
+rested_some [] [] g some = some
+rested_some [] (q ∷ qs) g some = absurd g
+rested_some (p ∷ ps) [] g some = absurd g
+rested_some (p ∷ ps) (q ∷ qs) g some = omega arith
+
 -- ---- the loop
 
+-- after so many rounds, with a rest in each
 pub record Draining (n : ℕ) (first doors : List ListenerTold) (ls ms : List ClientTold) : Type 0 where
   pub rested : AreRested first doors
+  pub rests : 0 < length first → added (rests_at first) n ≤ rests_at doors
   pub rounds : AllRounds n ls ms
 
 pub draining-none : (doors : List ListenerTold) (ls : List ClientTold) → Draining 0 doors doors ls ls
-draining-none doors ls = record { rested = rested-same doors; rounds = rounds-none ls }
+draining-none doors ls = record {
+  rested = rested-same doors;
+  rests = λ some. none_added (rests_at doors) (2 ^ 64 - 1);
+  rounds = rounds-none ls;
+}
 
 pub draining-more : (n : ℕ) (first doors later : List ListenerTold) (ls ms ns : List ClientTold) → Draining n first doors ls ms → AreWritten ms ns
     → later ≡ after_rest doors → Draining (n + 1) first later ls ns
 draining-more n first doors later ls ms ns d w is = record {
   rested = rested_further first doors later d.rested (subst (AreRested doors) (sym is) (rested_after doors));
+  rests = λ some. one_added n (rests_at first) (rests_at doors) (2 ^ 64 - 1) (rests_at later) (d.rests some)
+      (subst (λ ps. added (rests_at doors) 1 ≤ rests_at ps) (sym is) (rests-rested doors (rested_some first doors d.rested some)));
   rounds = rounds-more n ls ms ns d.rounds w;
 }
 
 pub draining-end : (n : ℕ) (first doors : List ListenerTold) (ls ms ns : List ClientTold) (halted : Bool) → halted ≡ false
     → Draining n first doors ls ms → AreWritten ms ns → any_writing ns ≡ false → Drains halted first doors ls ns
-draining-end n first doors ls ms ns halted running d w none = record {
-  doors = d.rested;
-  connections = rounds_go (n + 1) ls ns (rounds-more n ls ms ns d.rounds w);
-  drained = λ _. none_writes ns none;
-  undone = λ stopped. absurd (true≢false (sym stopped ∙ running));
-}
+draining-end n first doors ls ms ns halted running d w none =
+    let rounds = rounds-more n ls ms ns d.rounds w in
+    record {
+      doors = d.rested;
+      connections = rounds_go (n + 1) ls ns rounds;
+      drained = λ _. none_writes (n + 1) ls ns rounds none;
+      rests = λ _ writing. absurd (true≢false (sym writing ∙ none));
+      undone = λ stopped. absurd (true≢false (sym stopped ∙ running));
+    }
 
 pub draining-through : (n : ℕ) (first doors : List ListenerTold) (ls ms : List ClientTold) (halted : Bool) → halted ≡ false → most_waits ≤ n
     → Draining n first doors ls ms → Drains halted first doors ls ms
@@ -184,6 +209,7 @@ draining-through n first doors ls ms halted running h d = record {
   doors = d.rested;
   connections = rounds_go n ls ms d.rounds;
   drained = λ _. all_rounds n ls ms h d.rounds;
+  rests = λ _ writing some. all_added n most_waits (rests_at first) (2 ^ 64 - 1) (rests_at doors) h (d.rests some);
   undone = λ stopped. absurd (true≢false (sym stopped ∙ running));
 }
 
@@ -193,6 +219,7 @@ draining-halted doors ls halted is = record {
   doors = rested-same doors;
   connections = clients-same ls;
   drained = λ running. absurd (true≢false (sym is ∙ running));
+  rests = λ running. absurd (true≢false (sym is ∙ running));
   undone = λ _. (refl, refl);
 }
 

@@ -1,11 +1,11 @@
 -- How what is due is written before the connections come back.
-use Rattle.std.specs.Prelude.{◌≡◌, ◌≢◌, ◌⊎◌, ◌≤◌, Bool, true, false, List, [], ◌∷◌}
+use Rattle.std.specs.Prelude.{◌≡◌, ◌≢◌, ◌⊎◌, ◌≤◌, ◌<◌, Bool, true, false, List, [], ◌∷◌, length}
 use Rattle.std.specs.List.{list_any}
 use Rattle.outside_doors.specs.Counts.{added}
 use Rattle.conn_future.specs.declared.stage.Stage.{Stage}
 use Rattle.conn_future.specs.declared.stage.Stage.TheVariants as Stages
 use Rattle.run_theorem.specs.Lines.{most_waits}
-use Rattle.run_door_front.specs.Keeping.{ListenerTold, ClientTold, stage_at}
+use Rattle.run_door_front.specs.Keeping.{ListenerTold, ClientTold, stage_at, rests_at}
 use Rattle.run_door_front.specs.NextSteps.{HasNotFallen, ClientGoesOn, ClientsGoOn}
 
 -- a text goes out at this stage
@@ -35,14 +35,17 @@ AreWritten [] (m ∷ ms) = ⊥
 AreWritten (l ∷ ls) [] = ⊥
 AreWritten (l ∷ ls) (m ∷ ms) = WritesOn l m × AreWritten ls ms
 
--- no text goes out on a connection any more, or its wire could move nothing as often as a run looks in a row
-abbrev pub has_drained : ClientTold → Type 0
-has_drained link = (stage_at link ≢ Stages.Writes) ⊎ (most_waits ≤ link.waits)
+-- No text goes out on a connection any more, or its wire could move nothing as often as a run looks in a row, since it
+-- stood like this.
+abbrev pub has_drained : ClientTold → ClientTold → Type 0
+has_drained before now = (stage_at now ≢ Stages.Writes) ⊎ (added before.waits most_waits ≤ now.waits)
 
 -- the same of each
-abbrev pub HaveDrained : List ClientTold → Type 0
-HaveDrained [] = Unit {0}
-HaveDrained (l ∷ ls) = has_drained l × HaveDrained ls
+abbrev pub HaveDrained : List ClientTold → List ClientTold → Type 0
+HaveDrained [] [] = Unit {0}
+HaveDrained [] (m ∷ ms) = ⊥
+HaveDrained (l ∷ ls) [] = ⊥
+HaveDrained (l ∷ ls) (m ∷ ms) = has_drained l m × HaveDrained ls ms
 
 -- doors were rested at, and nothing else was done at them
 abbrev pub AreRested : List ListenerTold → List ListenerTold → Type 0
@@ -52,9 +55,12 @@ AreRested (p ∷ ps) [] = ⊥
 AreRested (p ∷ ps) (q ∷ qs) = (q ≡ record p { door = record p.door { rests = q.door.rests } })
     × HasNotFallen p.door.rests q.door.rests × AreRested ps qs
 
--- Connections went on, with rests at doors, until what was due was written; where the front halted nothing was done.
+-- Connections went on until what was due was written. Where a text still goes out on one there was a rest, if there is
+-- a door, as often as a run looks in a row. Where the front halted nothing was done.
 pub record Drains (halted : Bool) (first later : List ListenerTold) (before now : List ClientTold) : Type 0 where
   pub doors : AreRested first later
   pub connections : ClientsGoOn before now
-  pub drained : halted ≡ false → HaveDrained now
+  pub drained : halted ≡ false → HaveDrained before now
+  pub rests : halted ≡ false → any_writing now ≡ true → 0 < length first
+      → added (rests_at first) most_waits ≤ rests_at later
   pub undone : halted ≡ true → (later ≡ first) × (now ≡ before)

@@ -27,7 +27,7 @@ use Rattle.run_theorem.specs.Picks.{TookPicks}
 use Rattle.run_alone.proofs.Noting.{front_longer}
 use Rattle.run_theorem.specs.Ports.{DoorAt, doors_of, has_door}
 use Rattle.run_theorem.specs.RunConnections.{RunConnection}
-use Rattle.run_door_front.specs.Keeping.{ListenerTold, Keeping, AreNew, IsEmpty, services_of}
+use Rattle.run_door_front.specs.Keeping.{ListenerTold, ClientTold, Keeping, AreNew, IsEmpty, services_of}
 use Rattle.run_door_front.specs.Exchanged.{Sides, HasExchanged, MayHaveExchanged}
 use Rattle.run_door_front.specs.Draining.{HaveDrained}
 use Rattle.run_door_front.proofs.Closing.{exchanged_later, later as kept_later}
@@ -133,7 +133,8 @@ module _ {new : Exchange} (IsMade : WireTold → Type 0) (most_accepted : ℕ) (
     (o : Opens (doors_of t.parts) (opened_by before [] false) (opened_by mid ports failed))
     (first now : Sides) (begins : first.kept.doors ≡ ports) (most : first.kept.most ≡ most_accepted)
     (d : Exchange) (finished : Finished) (ran : Ran (rules_of t) t.text new d finished) (f : HasExchanged IsMade t.parts first now d)
-    (picked : TookPicks (rules_of t) t.picks finished.report) (drained : d.sent.halted ≡ false → HaveDrained now.kept.connections)
+    (picked : TookPicks (rules_of t) t.picks finished.report)
+    (undrained : List ClientTold) (drained : d.sent.halted ≡ false → HaveDrained undrained now.kept.connections)
     (back : GivesBack (map wire_of now.kept.connections) (map door_of now.kept.doors) mid after) where
   -- the history
   abbrev h : List Entry
@@ -285,7 +286,7 @@ module _ {new : Exchange} (IsMade : WireTold → Type 0) (most_accepted : ℕ) (
         led = led_so;
         wires = wires_are IsMade now.kept.connections f.connections f.clients;
       };
-      written = λ running. written_out IsMade now.kept.connections f.connections f.clients (drained running);
+      written = λ running. written_out IsMade undrained now.kept.connections f.connections f.clients (drained running);
       through = λ running below.
           through_so IsMade t.parts h first now d f ran.exchanged o.opened most_accepted (f.most ∙ most) running
           (subst (λ n. n < most_postings) came_long below);
@@ -342,16 +343,18 @@ doored_by IsMade most_accepted t before mid after ports failed o first now begin
     let f : HasExchanged IsMade t.parts first then d =
     exchanged_later IsMade t.parts first now.kept now.notes d c.ports c.connections c.drains.doors c.drains.connections whole in
     let halted : now.kept.halted ≡ d.sent.halted = sym whole.sent.halted in
-    let drained : d.sent.halted ≡ false → HaveDrained c.connections = λ running. c.drains.drained (halted ∙ running) in
-    let doors = failed_is IsMade most_accepted t before mid after ports failed o first then begins most d finished ran f picked drained c.gives in
+    let drained : d.sent.halted ≡ false → HaveDrained now.kept.connections c.connections = λ running. c.drains.drained (halted ∙ running) in
+    let doors =
+    failed_is IsMade most_accepted t before mid after ports failed o first then begins most d finished ran f picked now.kept.connections drained c.gives in
     doored-as IsMade most_accepted t (outside_of source output before first.notes link) former (outside_of source output after now.notes link_now) later
-    (ended IsMade most_accepted t before mid after ports failed o first then begins most d finished ran f picked drained c.gives) it w l
+    (ended IsMade most_accepted t before mid after ports failed o first then begins most d finished ran f picked now.kept.connections drained c.gives) it w l
     (ended_by it _ _
     (ends.status
     ∙ ap (λ x. status_of x (failed || ends.back.failed) finished.spent) halted
     ∙ ap (λ x. status_of d.sent.halted x finished.spent) (ap (λ x. failed || x) c.failed ∙ doors))
     (ends.report ∙ ap (with_traffic finished.report) c.traffic))
-    (doored_so IsMade most_accepted t before mid after ports failed o first then begins most d finished ran f picked drained c.gives source output link link_now travelled)
+    (doored_so IsMade most_accepted t before mid after ports failed o first then begins most d finished ran f picked now.kept.connections drained c.gives
+    source output link link_now travelled)
 
 -- ---- the front at the beginning
 
