@@ -75,7 +75,7 @@ impl<H: Net + Clock + Eprint + Copy + Drop> Listening<H> {
         }
     }
 
-    /// Whether the error of the last accept says that who came is gone, or that a signal came, and not that nobody waits.
+    /// Whether the error of the last accept says that who came is gone, or that a signal came: not that nobody waits.
     fn is_of_one_gone(&self, error: &io::Error) -> bool {
         self.emptied.is_none() && matches!(obstacle_of(error), Obstacle::Nobody)
     }
