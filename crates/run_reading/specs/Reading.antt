@@ -9,6 +9,7 @@ use Rattle.run_text.specs.declared.line.Line.TheVariants as line
 use Rattle.run_text.specs.Lines.{event_lines, line_text, record_text}
 use Rattle.run_reading.specs.declared.error.RecordError.{RecordError}
 use Rattle.run_reading.specs.declared.error.RecordError.TheVariants.{Bad, Memory}
+use Rattle.run_reading.specs.declared.reading.Stage.{Stage}
 use Rattle.run_reading.specs.declared.reading.Stage.TheVariants as stage
 use Rattle.run_reading.specs.declared.reading.Reading.{Reading}
 
@@ -24,16 +25,18 @@ events_read r = event_lines 0 r.passed ++ map (line.Event (length r.passed)) r.c
 abbrev pub middle : Reading → List Line
 middle r = opening r ++ line.Sessions r.count ∷ events_read r
 
+-- the lines that are read at a stage
+abbrev pub lines_at : Stage → Reading → List Line
+lines_at stage.Version r = []
+lines_at stage.Program r = line.Version ∷ []
+lines_at stage.Entries r = opening r
+lines_at stage.Events r = middle r
+lines_at stage.Traffic r = middle r ++ map line.Traffic r.traffic
+lines_at stage.Ended r = middle r ++ map line.Traffic r.traffic ++ line.Ending ∷ []
+
 -- the lines that are read
 abbrev pub lines_read : Reading → List Line
-lines_read r = elim r.stage [
-  | stage.Version ↦ []
-  | stage.Program ↦ line.Version ∷ []
-  | stage.Entries ↦ opening r
-  | stage.Events ↦ middle r
-  | stage.Traffic ↦ middle r ++ map line.Traffic r.traffic
-  | stage.Ended ↦ middle r ++ map line.Traffic r.traffic ++ line.Ending ∷ []
-]
+lines_read r = lines_at r.stage r
 
 -- their text
 abbrev pub text_read : Reading → List ℕ

@@ -48,7 +48,7 @@ impl<'a> Cursor<'a> {
 
     /// Passes over a text where it stands next.
     pub fn eat(&mut self, text: &[u8]) -> bool
-        ensures { length self.new ≤ length self.old }
+        ensures within { length self.new ≤ length self.old }
         ensures eaten { OnTrue result (length self.new + length text.now ≡ length self.old) }
     {
         match self.left.strip_prefix(text) {

@@ -96,61 +96,73 @@ impl Reading {
     fn version(&mut self) -> bool
         ensures { Takes line.Version self.old self.new result }
     {
-        if self.stage != Stage::Version {
-            return false;
+        match self.stage {
+            Stage::Version => {
+                self.stage = Stage::Program;
+                true
+            }
+            _ => false,
         }
-        self.stage = Stage::Program;
-        true
     }
 
     fn program(&mut self, program: Bytes) -> bool
         ensures { Takes (line.Program program) self.old self.new result }
     {
-        if self.stage != Stage::Program {
-            return false;
+        match self.stage {
+            Stage::Program => {
+                self.stage = Stage::Entries;
+                self.program = program;
+                self.entries = Vec::new(self.alloc);
+                true
+            }
+            _ => false,
         }
-        self.stage = Stage::Entries;
-        self.program = program;
-        self.entries = Vec::new(self.alloc);
-        true
     }
 
     fn entry(&mut self, entry: Entry) -> Result<bool, AllocError>
         ensures { IfOk result (λ fits. Takes (line.Entry entry) self.old self.new fits) }
     {
-        if self.stage != Stage::Entries {
-            return Ok(false);
+        match self.stage {
+            Stage::Entries => {
+                self.entries.push(entry)?;
+                Ok(true)
+            }
+            _ => Ok(false),
         }
-        self.entries.push(entry)?;
-        Ok(true)
     }
 
     fn sessions(&mut self, count: u64) -> Result<bool, AllocError>
         ensures { IfOk result (λ fits. Takes (line.Sessions count) self.old self.new fits) }
     {
-        if self.stage != Stage::Entries {
-            return Ok(false);
-        }
         if count > self.most_sessions {
             return Err(AllocError);
         }
-        self.stage = Stage::Events;
-        self.count = count;
-        self.passed = Items::new(self.alloc);
-        self.current = Items::new(self.alloc);
-        Ok(true)
+        match self.stage {
+            Stage::Entries => {
+                self.stage = Stage::Events;
+                self.count = count;
+                self.passed = Items::new(self.alloc);
+                self.current = Items::new(self.alloc);
+                Ok(true)
+            }
+            _ => Ok(false),
+        }
     }
 
     fn event(&mut self, session: u64, event: Event) -> Result<bool, AllocError>
         ensures { IfOk result (λ fits. Takes (line.Event session event) self.old self.new fits) }
     {
-        let passed = self.passed.len() as u64;
-        if self.stage != Stage::Events || session < passed || session >= self.count {
+        if session < self.passed.len() as u64 || session >= self.count {
             return Ok(false);
         }
-        self.pass_to(session)?;
-        self.current.push(event)?;
-        Ok(true)
+        match self.stage {
+            Stage::Events => {
+                self.pass_to(session)?;
+                self.current.push(event)?;
+                Ok(true)
+            }
+            _ => Ok(false),
+        }
     }
 
     /// Passes the sessions before that of a number.
@@ -180,31 +192,38 @@ impl Reading {
         ensures { IfOk result (λ fits. Takes (line.Traffic traffic) self.old self.new fits) }
     {
         self.end_events();
-        if self.stage != Stage::Traffic {
-            return Ok(false);
+        match self.stage {
+            Stage::Traffic => {
+                self.traffic.push(traffic)?;
+                Ok(true)
+            }
+            _ => Ok(false),
         }
-        self.traffic.push(traffic)?;
-        Ok(true)
     }
 
     fn ending(&mut self) -> bool
         ensures { Takes line.Ending self.old self.new result }
     {
         self.end_events();
-        if self.stage != Stage::Traffic {
-            return false;
+        match self.stage {
+            Stage::Traffic => {
+                self.stage = Stage::Ended;
+                true
+            }
+            _ => false,
         }
-        self.stage = Stage::Ended;
-        true
     }
 
     /// No event comes any more.
     fn end_events(&mut self)
         ensures { lines_read self.new ≡ lines_read self.old }
     {
-        if self.stage == Stage::Events {
-            self.stage = Stage::Traffic;
-            self.traffic = Items::new(self.alloc);
+        match self.stage {
+            Stage::Events => {
+                self.stage = Stage::Traffic;
+                self.traffic = Items::new(self.alloc);
+            }
+            _ => {}
         }
     }
 
@@ -212,29 +231,32 @@ impl Reading {
     pub fn finished(mut self) -> Result<Option<Record>, AllocError>
         ensures { IfOk result (λ run. IsWhole (text_read self) run) }
     {
-        if self.stage != Stage::Ended || self.passed.len() as u64 > self.count {
+        if self.passed.len() as u64 > self.count {
             return Ok(None);
         }
         self.pass_to(self.count)?;
-        if !self.current.is_empty() {
-            return Ok(None);
+        match self.stage {
+            Stage::Ended => Ok(self.whole()),
+            _ => Ok(None),
         }
-        Ok(Some(self.whole()))
     }
 
-    fn whole(self) -> Record
+    /// The record, where no event is left over.
+    fn whole(self) -> Option<Record>
         requires ended { self.stage ≡ stage.Ended }
-        requires none { self.current ≡ [] }
         requires all { length self.passed ≡ self.count }
-        ensures { text_read self ≡ record_text result }
+        ensures { IsWhole (text_read self) result }
     {
-        Record {
+        if !self.current.is_empty() {
+            return None;
+        }
+        Some(Record {
             program: self.program,
             history: History {
                 entries: self.entries,
             },
             sessions: self.passed,
             traffic: self.traffic,
-        }
+        })
     }
 }

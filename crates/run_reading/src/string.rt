@@ -5,7 +5,8 @@ use crate::error::LineError;
 use jolie_trees::{Bytes, Text};
 
 /// A byte of a string, and how many bytes write it.
-struct Written {
+#[derive(Clone, Copy, Debug)]
+struct StringByte {
     byte: u8,
     length: usize,
 }
@@ -37,7 +38,7 @@ impl<'a> Cursor<'a> {
         let mut bytes = Vec::new(self.alloc);
         for code in text.as_str().chars() {
             match u8::try_from(code as u32) {
-                Ok(byte) => bytes.push(byte)?,
+                Ok(byte) => bytes.extend_from_slice(&[byte])?,
                 Err(_) => return Err(LineError::Unfit),
             }
         }
@@ -51,28 +52,28 @@ impl<'a> Cursor<'a> {
         self.expect(b"\"")?;
         let mut content = Vec::new(self.alloc);
         while !self.eat(b"\"") {
-            let next = written(self.left())?;
+            let next = first_byte(self.left())?;
             self.skip(next.length);
-            content.push(next.byte)?;
+            content.extend_from_slice(&[next.byte])?;
         }
         Ok(content)
     }
 }
 
 /// The first byte of what is left of a string.
-fn written(left: &[u8]) -> Result<Written, LineError>
+fn first_byte(left: &[u8]) -> Result<StringByte, LineError>
     ensures { IfOk result (λ w. (1 ≤ w.length) × (w.length ≤ length left.now)) }
 {
     match left {
         [b'\\', b'u', b'0', b'0', high, low, ..] => {
             let byte = digit(*high)? * 16 + digit(*low)?;
-            Ok(Written { byte, length: 6 })
+            Ok(StringByte { byte, length: 6 })
         }
-        [b'\\', letter, ..] => Ok(Written {
+        [b'\\', letter, ..] => Ok(StringByte {
             byte: escaped(*letter)?,
             length: 2,
         }),
-        [byte, ..] => Ok(Written {
+        [byte, ..] => Ok(StringByte {
             byte: *byte,
             length: 1,
         }),

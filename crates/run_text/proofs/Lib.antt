@@ -1,3 +1,3 @@
-pub mod Examples
+pub mod Computed
 pub mod Turns
 pub mod Lines

@@ -1,3 +1,3 @@
 /// Does nothing.
-#[tactic(auto, using(crate::proofs::Examples::example))]
+#[tactic(auto, using(crate::proofs::Computed::example))]
 pub(crate) fn examples() {}

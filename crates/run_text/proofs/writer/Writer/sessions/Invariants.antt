@@ -1,6 +1,6 @@
 use Rattle.std.proofs.Common.{◌≡◌, ◌++◌, drop, flat_map}
 use Rattle.run_text.specs.Lines.{line_text, event_lines}
-use Rattle.run_text.proofs.record.Writer.sessions.Given as goal
+use Rattle.run_text.proofs.writer.Writer.sessions.Given as goal
 
 abbrev pub invariant-loop-session : goal.invariant-loop-session
 invariant-loop-session l =

@@ -1,7 +1,7 @@
 use Rattle.std.proofs.Common.{◌≡◌, ◌++◌, drop, flat_map, map}
 use Rattle.run_text.specs.Lines.{line_text}
 use Rattle.run_text.specs.declared.line.Line.TheVariants as line
-use Rattle.run_text.proofs.record.Writer.entries.Given as goal
+use Rattle.run_text.proofs.writer.Writer.entries.Given as goal
 
 abbrev pub invariant-loop-entry : goal.invariant-loop-entry
 invariant-loop-entry l =
