@@ -74,3 +74,20 @@ whole_lines r none all =
     let events : events_read r ≡ event_lines 0 r.passed = ap (λ es. event_lines 0 r.passed ++ map (line.Event (length r.passed)) es) none ∙ append-nil (event_lines 0 r.passed) in
     (λ i. (opening r ++ line.Sessions (sym all i) ∷ events i) ++ map line.Traffic r.traffic ++ line.Ending ∷ [])
     ∙ grouped (opening r) (event_lines 0 r.passed) (map line.Traffic r.traffic) (line.Sessions (length r.passed)) line.Ending
+
+-- one event more of the session that is read
+pub event_more : (o x : List Line) (s : Line) (n m : ℕ) (now old : List Event) (e : Event) → now ≡ old ++ e ∷ [] → n ≡ m
+    → o ++ s ∷ (x ++ map (line.Event n) now) ≡ (o ++ s ∷ (x ++ map (line.Event n) old)) ++ line.Event m e ∷ []
+event_more o x s n m now old e is number =
+    ap (λ ls. o ++ s ∷ (x ++ ls)) (mapped_more (line.Event n) now old e is)
+    ∙ regrouped o x (map (line.Event n) old) s (line.Event n e)
+    ∙ ap (λ k. (o ++ s ∷ (x ++ map (line.Event n) old)) ++ line.Event k e ∷ []) number
+  where
+    regrouped : (o x y : List Line) (s l : Line) → o ++ s ∷ (x ++ (y ++ l ∷ [])) ≡ (o ++ s ∷ (x ++ y)) ++ l ∷ []
+    regrouped o x y s l = simp append_assoc
+
+-- one part of the traffic more
+pub traffic_more : (ls : List Line) (now old : List Traffic) (t : Traffic) → now ≡ old ++ t ∷ []
+    → ls ++ map line.Traffic now ≡ (ls ++ map line.Traffic old) ++ line.Traffic t ∷ []
+traffic_more ls now old t is =
+    ap (λ ms. ls ++ ms) (mapped_more line.Traffic now old t is) ∙ sym (append_assoc ls (map line.Traffic old) (line.Traffic t ∷ []))

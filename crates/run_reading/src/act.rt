@@ -1,13 +1,13 @@
 use crate::cursor::Cursor;
 use crate::error::LineError;
 use office_core::{Act, Entry, Posted};
-use std::alloc::{AllocError, Global};
+use sqlite_items::Boxed;
 
 impl<'a> Cursor<'a> {
-    pub fn entry(&mut self) -> Result<Box<Entry>, LineError> {
+    pub fn entry(&mut self) -> Result<Boxed<Entry>, LineError> {
         let actor = self.short_number()?;
         let act = self.act()?;
-        Ok(boxed(self.alloc, Entry { actor, act })?)
+        Ok(Boxed::new(self.alloc, Entry { actor, act })?)
     }
 
     fn act(&mut self) -> Result<Act, LineError> {
@@ -97,8 +97,4 @@ impl<'a> Cursor<'a> {
             placed,
         })
     }
-}
-
-fn boxed(alloc: Global, entry: Entry) -> Result<Box<Entry>, AllocError> {
-    Ok(Box::new(alloc, entry)?)
 }

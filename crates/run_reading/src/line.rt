@@ -6,7 +6,8 @@ use crate::error::LineError;
 use behaviour_tree::{Event, Kind};
 use run_record::Traffic;
 use run_text::{Line, line_text};
-use std::alloc::{AllocError, Global};
+use sqlite_items::Boxed;
+use std::alloc::Global;
 
 /// What a line says, with its line feed.
 pub(crate) fn line_of(alloc: Global, text: &[u8]) -> Result<Line, LineError>
@@ -72,12 +73,8 @@ impl<'a> Cursor<'a> {
     fn traffic(&mut self) -> Result<Line, LineError> {
         let read = self.bytes()?;
         let written = self.bytes()?;
-        Ok(Line::Traffic(boxed(self.alloc, Traffic { read, written })?))
+        Ok(Line::Traffic(Boxed::new(self.alloc, Traffic { read, written })?))
     }
-}
-
-fn boxed(alloc: Global, traffic: Traffic) -> Result<Box<Traffic>, AllocError> {
-    Ok(Box::new(alloc, traffic)?)
 }
 
 fn kind_of(name: &str) -> Result<Kind, LineError> {

@@ -85,10 +85,10 @@ impl Reading {
         match line {
             Line::Version => Ok(self.version()),
             Line::Program(program) => Ok(self.program(program)),
-            Line::Entry(entry) => self.entry(Box::into_inner(entry)),
+            Line::Entry(entry) => self.entry(entry.into_inner()),
             Line::Sessions(count) => self.sessions(count),
             Line::Event { session, event } => self.event(session, event),
-            Line::Traffic(traffic) => self.traffic(Box::into_inner(traffic)),
+            Line::Traffic(traffic) => self.traffic(traffic.into_inner()),
             Line::Ending => Ok(self.ending()),
         }
     }
@@ -185,7 +185,8 @@ impl Reading {
         ensures stage { self.new.stage ≡ self.old.stage }
     {
         let events = replace(&mut self.current, Items::new(self.alloc));
-        self.passed.push(events)
+        self.passed.push(events)?;
+        Ok(())
     }
 
     fn traffic(&mut self, traffic: Traffic) -> Result<bool, AllocError>

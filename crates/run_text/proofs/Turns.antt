@@ -51,3 +51,10 @@ session_turn now next whole xs i x below item is before =
     ∙ flat_map-append line_text (map (line.Event i) x) (event_lines (suc i) rest)
     ∙ ap (λ n. flat_map line_text (map (line.Event i) x) ++ flat_map line_text (event_lines n rest)) (sym later))
     is before
+
+-- the end of the loop over sessions
+pub sessions_ended : (now whole : List ℕ) (xs : List (List Event)) (i : ℕ) → length xs ≤ i
+    → now ++ flat_map line_text (event_lines i (drop i xs)) ≡ whole → now ≡ whole
+sessions_ended now whole xs i past before =
+    all_written now (flat_map line_text (event_lines i (drop i xs))) whole
+    (ap (λ ys. flat_map line_text (event_lines i ys)) (drop_all i xs past)) before

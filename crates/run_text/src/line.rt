@@ -8,6 +8,7 @@ use behaviour_tree::{Event, Kind};
 use jolie_trees::{Bytes, Text};
 use office_core::Entry;
 use run_record::Traffic;
+use sqlite_items::Boxed;
 use std::alloc::{AllocError, Global};
 
 /// What a line of a record's text says.
@@ -16,12 +17,12 @@ pub enum Line {
     /// The first line.
     Version,
     Program(Bytes),
-    Entry(Box<Entry>),
+    Entry(Boxed<Entry>),
     /// The number of sessions.
     Sessions(u64),
     /// An event of the session of a number.
     Event { session: u64, event: Event },
-    Traffic(Box<Traffic>),
+    Traffic(Boxed<Traffic>),
     /// The last line.
     Ending,
 }
@@ -42,10 +43,10 @@ impl Writer {
         match line {
             Line::Version => self.version_line(),
             Line::Program(program) => self.program_line(program.as_slice()),
-            Line::Entry(entry) => self.entry_line(entry),
+            Line::Entry(entry) => self.entry_line(entry.get()),
             Line::Sessions(count) => self.sessions_line(*count),
             Line::Event { session, event } => self.event_line(*session, event),
-            Line::Traffic(traffic) => self.traffic_line(traffic),
+            Line::Traffic(traffic) => self.traffic_line(traffic.get()),
             Line::Ending => self.ending_line(),
         }
     }

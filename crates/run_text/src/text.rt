@@ -18,7 +18,8 @@ pub(crate) fn text_string(alloc: Global, text: &str) -> Result<String, AllocErro
 pub(crate) fn bytes_string(alloc: Global, bytes: &[u8]) -> Result<String, AllocError>
     ensures { IfOk result (λ quoted. string_bytes quoted ≡ spec.bytes_string bytes.now) }
 {
-    Value::String(code_points(alloc, bytes)?).to_string(alloc)
+    let points = code_points(alloc, bytes)?;
+    text_string(alloc, points.as_str())
 }
 
 /// The text of the code points that are the values of bytes.

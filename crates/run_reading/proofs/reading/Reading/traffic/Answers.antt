@@ -1,0 +1,15 @@
+use Rattle.std.proofs.Common.{◌≡◌, [], ◌∷◌, ◌++◌, length, ap, sym, refl, ◌∙◌, map, flat_map}
+use Rattle.run_text.specs.declared.line.Line.TheVariants as line
+use Rattle.run_text.specs.Lines.{event_lines, line_text}
+use Rattle.run_reading.specs.declared.reading.Stage.TheVariants as stage
+use Rattle.run_reading.specs.Reading.{opening, middle, lines_at, lines_read, text_read}
+use Rattle.run_reading.proofs.Readings.{at_stage, one_more, mapped_more, passed_on, same_lines, text_more, whole_lines, event_more, traffic_more}
+use Rattle.run_reading.proofs.reading.Reading.traffic.Goals as goal
+
+pub returns-in_ok-push : goal.returns-in_ok-push
+returns-in_ok-push c =
+    let left = c.end_events.new.self in
+    ap (λ s. lines_at s _) c.in-Traffic.is
+    ∙ traffic_more (middle left) _ _ c.args.traffic c.in_ok-push.ensures
+    ∙ one_more left stage.Traffic (line.Traffic c.args.traffic) c.in-Traffic.is
+    ∙ ap (λ ls. ls ++ line.Traffic c.args.traffic ∷ []) c.end_events.ensures
