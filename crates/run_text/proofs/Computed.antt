@@ -1,5 +1,5 @@
 -- Lines computed.
-use Rattle.std.specs.Prelude.{◌≡◌, ℕ, pos, negsuc, true, List, [], ◌∷◌, codes}
+use Rattle.std.specs.Prelude.{◌≡◌, ℕ, pos, negsuc, true, List, [], ◌∷◌, ◌++◌, codes}
 use Rattle.std.proofs.Common.{refl}
 use Rattle.std.specs.Fmt.{digits}
 use Rattle.std.specs.Char.{digit_char}
@@ -25,7 +25,8 @@ a_post : line_text (line.Entry (record {
 unfolding digits escape_byte
 a_post = refl
 
-bytes : line_text (line.Traffic (record { read = 10 ∷ 0 ∷ 255 ∷ 127 ∷ []; written = [] })) ≡ codes "traffic \"\\n\\u0000ÿ\" \"\"\n"
+bytes : line_text (line.Traffic (record { read = 10 ∷ 0 ∷ 255 ∷ 127 ∷ []; written = [] }))
+    ≡ codes "traffic \"\\n\\u0000" ++ 195 ∷ 191 ∷ 127 ∷ codes "\" \"\"\n"
 unfolding digits escape_byte encode
 bytes = refl
 

@@ -68,6 +68,20 @@ lower_child (node r fs) es rest name ts split lower =
     let h : fields_levels (fields_of es) ≡ max (trees_levels ts) (fields_levels (fields_of rest)) = ap (λ xs. fields_levels (fields_of xs)) split in
     omega (arith, h, lower)
 
+-- so have those of the first child
+pub lower_first : (t : Tree) (es rest : List (List ℕ × Trees)) (name : List ℕ) (ts : Trees) → fields_of es ≡ children_of t → es ≡ (name, ts) ∷ rest
+    → trees_levels ts + 1 ≤ levels t
+lower_first t es rest name ts all split =
+    let h : fields_levels (fields_of es) ≡ fields_levels (children_of t) = ap fields_levels all in
+    lower_child t es rest name ts split (omega (arith, h))
+
+-- what comes after the first child has no more levels than all
+pub lower_rest : (t : Tree) (es rest : List (List ℕ × Trees)) (e : List ℕ × Trees) → fields_of es ≡ children_of t → es ≡ e ∷ rest
+    → fields_levels (fields_of rest) ≤ fields_levels (children_of t)
+lower_rest t es rest e all split =
+    let h : fields_levels (fields_of es) ≡ fields_levels (children_of t) = ap fields_levels all in
+    lower_step es rest e (fields_levels (children_of t)) split (omega (arith, h))
+
 -- a name with its trees
 pub named_written : {A E : Type 0} (r : Result A E) (name inside w0 w1 w2 w3 w4 : List ℕ) → w1 ≡ w0 ++ text_string name → w2 ≡ w1 ++ codes ":["
     → w3 ≡ w2 ++ inside → OnOk r (w4 ≡ w3 ++ codes "]") → OnOk r (w4 ≡ w0 ++ named name inside)
@@ -100,7 +114,7 @@ first_tree ts t w0 w1 some item is =
 pub next_tree : (ts : List Tree) (i : ℕ) (t : Tree) (w0 w1 w2 whole : List ℕ) → i < length ts → t ≡ get_or ts i t → w1 ≡ w0 ++ codes ","
     → w2 ≡ w1 ++ tree_text t → w0 ++ more_trees (trees_of (drop i ts)) ≡ whole → w2 ++ more_trees (trees_of (drop (i + 1) ts)) ≡ whole
 next_tree ts i t w0 w1 w2 whole below item comma is before =
-    turn (λ us. more_trees (trees_of us)) (λ u. codes "," ++ tree_text u) w0 w2 whole ts i t
+    turn (λ us. more_trees (trees_of us)) (λ u. codes "," ++ tree_text u) w0 w2 whole ts i t t
     (λ u us. sym (append_assoc (codes ",") (tree_text u) (more_trees (trees_of us)))) below item
     (is ∙ ap (λ w. w ++ tree_text t) comma ∙ append_assoc w0 (codes ",") (tree_text t)) before
 

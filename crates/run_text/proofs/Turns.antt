@@ -7,11 +7,11 @@ use Rattle.run_text.specs.declared.line.Line.TheVariants as line
 use Rattle.run_text.specs.Lines.{event_lines, line_text}
 
 -- the item at an index is the first of what is left
-pub first_left : {X : Type 0} (xs : List X) (i : ℕ) (x : X) → i < length xs → x ≡ get_or xs i x
+pub first_left : {X : Type 0} (xs : List X) (i : ℕ) (x d : X) → i < length xs → x ≡ get_or xs i d
     → drop i xs ≡ x ∷ drop (i + 1) xs
-first_left xs i x below item =
+first_left xs i x d below item =
     let next : i + 1 ≡ suc i = omega arith in
-    rw next (drop-cons xs i x below ∙ ap (λ y. y ∷ drop (suc i) xs) (sym item))
+    rw next (drop-cons xs i d below ∙ ap (λ y. y ∷ drop (suc i) xs) (sym item))
 
 -- what is written next comes off what is still to come
 pub written_next : (now next this later left whole : List ℕ) → left ≡ this ++ later → next ≡ now ++ this
@@ -24,12 +24,12 @@ pub all_written : (now left whole : List ℕ) → left ≡ [] → now ++ left �
 all_written now left whole none before = sym (append-nil now) ∙ ap (λ xs. now ++ xs) (sym none) ∙ before
 
 -- a turn of a loop over a list
-pub turn : {X : Type 0} (g : List X → List ℕ) (f : X → List ℕ) (now next whole : List ℕ) (xs : List X) (i : ℕ) (x : X)
-    → ((y : X) (ys : List X) → g (y ∷ ys) ≡ f y ++ g ys) → i < length xs → x ≡ get_or xs i x → next ≡ now ++ f x
+pub turn : {X : Type 0} (g : List X → List ℕ) (f : X → List ℕ) (now next whole : List ℕ) (xs : List X) (i : ℕ) (x d : X)
+    → ((y : X) (ys : List X) → g (y ∷ ys) ≡ f y ++ g ys) → i < length xs → x ≡ get_or xs i d → next ≡ now ++ f x
     → now ++ g (drop i xs) ≡ whole → next ++ g (drop (i + 1) xs) ≡ whole
-turn g f now next whole xs i x one below item is before =
+turn g f now next whole xs i x d one below item is before =
     written_next now next (f x) (g (drop (i + 1) xs)) (g (drop i xs)) whole
-    (ap g (first_left xs i x below item) ∙ one x (drop (i + 1) xs)) is before
+    (ap g (first_left xs i x d below item) ∙ one x (drop (i + 1) xs)) is before
 
 -- the end of a loop over a list
 pub ended : {X : Type 0} (g : List X → List ℕ) (now whole : List ℕ) (xs : List X) (i : ℕ) → g [] ≡ [] → length xs ≤ i
@@ -47,7 +47,7 @@ session_turn now next whole xs i x below item is before =
     let rest = drop (i + 1) xs in
     written_next now next (flat_map line_text (map (line.Event i) x)) (flat_map line_text (event_lines (i + 1) rest))
     (flat_map line_text (event_lines i (drop i xs))) whole
-    (ap (λ ys. flat_map line_text (event_lines i ys)) (first_left xs i x below item)
+    (ap (λ ys. flat_map line_text (event_lines i ys)) (first_left xs i x x below item)
     ∙ flat_map-append line_text (map (line.Event i) x) (event_lines (suc i) rest)
     ∙ ap (λ n. flat_map line_text (map (line.Event i) x) ++ flat_map line_text (event_lines n rest)) (sym later))
     is before

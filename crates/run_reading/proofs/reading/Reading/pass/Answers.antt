@@ -6,7 +6,7 @@ use Rattle.run_reading.specs.Reading.{opening, middle, lines_at, lines_read, tex
 use Rattle.run_reading.proofs.Readings.{at_stage, one_more, mapped_more, passed_on, same_lines, text_more, whole_lines, event_more, traffic_more}
 use Rattle.run_reading.proofs.reading.Reading.pass.Goals as goal
 
-pub returns-in_ok-push-clause-same : goal.returns-in_ok-push-clause-same
-returns-in_ok-push-clause-same c =
+pub returns-clause-same : goal.returns-clause-same
+returns-clause-same c =
     same_lines c.args.self.now.stage c.args.self.now _ refl refl refl
     (passed_on _ _ _ _ (c.in_ok-push.ensures ∙ ap (λ es. c.args.self.now.passed ++ es ∷ []) c.replace-events.ensures.value) (c.replace-events.ensures.after ∙ c.new.ensures))

@@ -6,7 +6,7 @@ use Rattle.run_text.proofs.writer.Writer.entries.Goals as goal
 
 pub loop-entry-preserved : goal.loop-entry-preserved
 loop-entry-preserved c =
-    turn (λ xs. flat_map line_text (map line.Entry xs)) (λ x. line_text (line.Entry x)) c.loop-entry.self c.entry_line.new.self _ c.args.entries.now c.loop-entry.entry-index c.entry-item.result
+    turn (λ xs. flat_map line_text (map line.Entry xs)) (λ x. line_text (line.Entry x)) c.loop-entry.self c.entry_line.new.self _ c.args.entries.now c.loop-entry.entry-index c.entry-item.result c.entry-item.result
     (λ y ys. refl) c.loop-entry-test.true c.entry-item.is c.in_ok-entry_line.ensures c.loop-entry.invariant
 
 pub returns : goal.returns

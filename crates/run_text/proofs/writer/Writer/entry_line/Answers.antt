@@ -5,7 +5,7 @@ use Rattle.run_text.specs.Writing.{after}
 use Rattle.run_text.proofs.Lines.{line_written_well}
 use Rattle.run_text.proofs.writer.Writer.entry_line.Goals as goal
 
-pub returns-in_ok-act : goal.returns-in_ok-act
-returns-in_ok-act c =
+pub returns : goal.returns
+returns c =
     line_written_well c.end_line.result c.args.self.now c.push.new.self c.act.new.self c.end_line.new.self (codes "entry") (decimal c.args.entry.now.actor ∷ act_words c.args.entry.now.act)
     c.in_ok-push.ensures (c.in_ok-act.ensures ∙ ap (λ s. after s (act_words c.args.entry.now.act)) c.in_ok-number.ensures) c.end_line.ensures

@@ -6,7 +6,7 @@ use Rattle.run_text.proofs.writer.Writer.events.Goals as goal
 
 pub loop-event-preserved : goal.loop-event-preserved
 loop-event-preserved c =
-    turn (λ xs. flat_map line_text (map (line.Event c.args.session) xs)) (λ x. line_text (line.Event c.args.session x)) c.loop-event.self c.event_line.new.self _ c.args.events.now c.loop-event.event-index c.event-item.result
+    turn (λ xs. flat_map line_text (map (line.Event c.args.session) xs)) (λ x. line_text (line.Event c.args.session x)) c.loop-event.self c.event_line.new.self _ c.args.events.now c.loop-event.event-index c.event-item.result c.event-item.result
     (λ y ys. refl) c.loop-event-test.true c.event-item.is c.in_ok-event_line.ensures c.loop-event.invariant
 
 pub returns : goal.returns

@@ -6,7 +6,7 @@ use Rattle.run_text.proofs.writer.Writer.traffic.Goals as goal
 
 pub loop-traffic-preserved : goal.loop-traffic-preserved
 loop-traffic-preserved c =
-    turn (λ xs. flat_map line_text (map line.Traffic xs)) (λ x. line_text (line.Traffic x)) c.loop-traffic.self c.traffic_line.new.self _ c.args.traffic.now c.loop-traffic.traffic-index c.traffic-item.result
+    turn (λ xs. flat_map line_text (map line.Traffic xs)) (λ x. line_text (line.Traffic x)) c.loop-traffic.self c.traffic_line.new.self _ c.args.traffic.now c.loop-traffic.traffic-index c.traffic-item.result c.traffic-item.result
     (λ y ys. refl) c.loop-traffic-test.true c.traffic-item.is c.in_ok-traffic_line.ensures c.loop-traffic.invariant
 
 pub returns : goal.returns
