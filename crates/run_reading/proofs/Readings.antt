@@ -1,6 +1,6 @@
 -- What one more line adds to those that are read.
-use Rattle.std.proofs.Common.{◌≡◌, ℕ, suc, ◌+◌, ◌<◌, ◌≤◌, Bool, true, false, List, [], ◌∷◌, ◌++◌, length, map, flat_map, take, drop, refl, ap, sym, ◌∙◌, arith, append_assoc, append-nil}
-use Rattle.std.proofs.lemmas.List.{map-append}
+use Rattle.std.proofs.Common.{◌≡◌, ℕ, suc, ◌+◌, ◌<◌, ◌≤◌, Bool, true, false, List, [], ◌∷◌, ◌++◌, length, map, flat_map, take, drop, refl, ap, sym, ◌∙◌, arith, append_assoc, append-nil, true≢false, take-add}
+use Rattle.std.proofs.lemmas.List.{map-append, take_all}
 use Rattle.std.proofs.lemmas.Grind.{flat_map-append}
 use Rattle.behaviour_tree.specs.declared.words.Event.{Event}
 use Rattle.office_core.specs.declared.history.Entry.{Entry}
@@ -91,3 +91,14 @@ pub traffic_more : (ls : List Line) (now old : List Traffic) (t : Traffic) → n
     → ls ++ map line.Traffic now ≡ (ls ++ map line.Traffic old) ++ line.Traffic t ∷ []
 traffic_more ls now old t is =
     ap (λ ms. ls ++ ms) (mapped_more line.Traffic now old t is) ∙ sym (append_assoc ls (map line.Traffic old) (line.Traffic t ∷ []))
+
+-- one line more is read of the bytes
+pub line_more : (bytes : List ℕ) (at n : ℕ) (before now : Reading) (fits : Bool) → fits ≡ true → take at bytes ≡ text_read before
+    → Reads (take n (drop at bytes)) before now fits → take (at + n) bytes ≡ text_read now
+line_more bytes at n before now true yes front reads =
+    take-add at n bytes ∙ ap (λ bs. bs ++ take n (drop at bytes)) front ∙ sym reads
+line_more bytes at n before now false yes front reads = absurd (true≢false (sym yes))
+
+-- where all bytes are read, the whole is their text
+pub all_read : (bytes : List ℕ) (at : ℕ) (r : Reading) → length bytes ≤ at → take at bytes ≡ text_read r → bytes ≡ text_read r
+all_read bytes at r past front = sym (take_all at bytes past) ∙ front

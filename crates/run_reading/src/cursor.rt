@@ -1,4 +1,4 @@
-ghost use Rattle.std.specs.Prelude.{◌≡◌, ◌≤◌, ◌+◌, drop, length, OnOk};
+ghost use Rattle.std.specs.Prelude.{◌≡◌, ◌≤◌, ◌+◌, drop, length};
 ghost use Rattle.std.specs.Bool.{OnTrue};
 
 use crate::error::LineError;
@@ -62,7 +62,7 @@ impl<'a> Cursor<'a> {
 
     /// Passes over a text that stands next.
     pub fn expect(&mut self, text: &[u8]) -> Result<(), LineError>
-        ensures { OnOk result (length self.new ≤ length self.old) }
+        ensures { length self.new ≤ length self.old }
     {
         if self.eat(text) {
             Ok(())
@@ -85,7 +85,7 @@ impl<'a> Cursor<'a> {
     }
 
     pub fn bare_text(&mut self) -> Result<&'a str, LineError>
-        ensures { OnOk result (length self.new ≤ length self.old) }
+        ensures { length self.new ≤ length self.old }
     {
         match std::str::from_utf8(self.bare()) {
             Ok(text) => Ok(text),
@@ -94,35 +94,27 @@ impl<'a> Cursor<'a> {
     }
 
     /// A word after another.
-    pub fn word(&mut self) -> Result<&'a str, LineError>
-        ensures { OnOk result (length self.new ≤ length self.old) }
-    {
+    pub fn word(&mut self) -> Result<&'a str, LineError> {
         self.expect(b" ")?;
         self.bare_text()
     }
 
     /// A number after another word.
-    pub fn number(&mut self) -> Result<u64, LineError>
-        ensures { OnOk result (length self.new ≤ length self.old) }
-    {
+    pub fn number(&mut self) -> Result<u64, LineError> {
         match self.word()?.parse::<u64>() {
             Ok(number) => Ok(number),
             Err(_) => Err(LineError::Unfit),
         }
     }
 
-    pub fn short_number(&mut self) -> Result<u32, LineError>
-        ensures { OnOk result (length self.new ≤ length self.old) }
-    {
+    pub fn short_number(&mut self) -> Result<u32, LineError> {
         match self.word()?.parse::<u32>() {
             Ok(number) => Ok(number),
             Err(_) => Err(LineError::Unfit),
         }
     }
 
-    pub fn flag(&mut self) -> Result<bool, LineError>
-        ensures { OnOk result (length self.new ≤ length self.old) }
-    {
+    pub fn flag(&mut self) -> Result<bool, LineError> {
         match self.word()? {
             "0" => Ok(false),
             "1" => Ok(true),

@@ -1,4 +1,4 @@
-ghost use Rattle.std.specs.Prelude.{◌≤◌, ◌<◌, length, IfOk, OnOk};
+ghost use Rattle.std.specs.Prelude.{◌≤◌, ◌<◌, length, IfOk};
 
 use crate::cursor::Cursor;
 use crate::error::LineError;
@@ -14,7 +14,7 @@ struct StringByte {
 impl<'a> Cursor<'a> {
     /// A string in quotes, where it stands next.
     pub fn quoted(&mut self) -> Result<Text, LineError>
-        ensures { OnOk result (length self.new ≤ length self.old) }
+        ensures { length self.new ≤ length self.old }
     {
         match String::from_utf8(self.content()?) {
             Ok(text) => Ok(Text::from_string(text)),
@@ -23,17 +23,13 @@ impl<'a> Cursor<'a> {
     }
 
     /// A string after another word.
-    pub fn string(&mut self) -> Result<Text, LineError>
-        ensures { OnOk result (length self.new ≤ length self.old) }
-    {
+    pub fn string(&mut self) -> Result<Text, LineError> {
         self.expect(b" ")?;
         self.quoted()
     }
 
     /// A string after another word, whose code points are bytes.
-    pub fn bytes(&mut self) -> Result<Bytes, LineError>
-        ensures { OnOk result (length self.new ≤ length self.old) }
-    {
+    pub fn bytes(&mut self) -> Result<Bytes, LineError> {
         let text = self.string()?;
         let mut bytes = Vec::new(self.alloc);
         for code in text.as_str().chars() {
@@ -47,7 +43,7 @@ impl<'a> Cursor<'a> {
 
     /// What stands between quotes, without its escapes.
     fn content(&mut self) -> Result<Vec<u8>, LineError>
-        ensures { OnOk result (length self.new ≤ length self.old) }
+        ensures { length self.new ≤ length self.old }
     {
         self.expect(b"\"")?;
         let mut content = Vec::new(self.alloc);

@@ -1,4 +1,4 @@
-ghost use Rattle.std.specs.Prelude.{◌≤◌, length, OnOk};
+ghost use Rattle.std.specs.Prelude.{◌≤◌, length};
 
 use crate::cursor::Cursor;
 use crate::error::LineError;
@@ -10,17 +10,13 @@ const MOST_LEVELS: u32 = 512;
 
 impl<'a> Cursor<'a> {
     /// A tree after another word.
-    pub fn tree(&mut self) -> Result<Tree, LineError>
-        ensures { OnOk result (length self.new ≤ length self.old) }
-    {
+    pub fn tree(&mut self) -> Result<Tree, LineError> {
         self.expect(b" ")?;
         self.node(MOST_LEVELS)
     }
 
     /// A root after another word.
-    pub fn root(&mut self) -> Result<Root, LineError>
-        ensures { OnOk result (length self.new ≤ length self.old) }
-    {
+    pub fn root(&mut self) -> Result<Root, LineError> {
         self.expect(b" ")?;
         self.bare_root()
     }
@@ -28,7 +24,7 @@ impl<'a> Cursor<'a> {
     /// A tree of so many levels at most, where it stands next.
     #[cycle(node)]
     fn node(&mut self, levels: u32) -> Result<Tree, LineError>
-        ensures { OnOk result (length self.new ≤ length self.old) }
+        ensures { length self.new ≤ length self.old }
     {
         if levels == 0 {
             return Err(LineError::Memory(AllocError));
@@ -43,7 +39,7 @@ impl<'a> Cursor<'a> {
     /// The children of a node, to the brace after them.
     #[cycle(node)]
     fn children(&mut self, tree: &mut Tree, levels: u32) -> Result<(), LineError>
-        ensures { OnOk result (length self.new ≤ length self.old) }
+        ensures { length self.new ≤ length self.old }
     {
         self.vector(tree, levels)?;
         while self.eat(b",") {
@@ -55,7 +51,7 @@ impl<'a> Cursor<'a> {
     /// A name with the trees under it in brackets.
     #[cycle(node)]
     fn vector(&mut self, tree: &mut Tree, levels: u32) -> Result<(), LineError>
-        ensures { OnOk result (length self.new ≤ length self.old) }
+        ensures { length self.new ≤ length self.old }
     {
         let name = self.quoted()?;
         self.expect(b":[")?;
@@ -68,7 +64,7 @@ impl<'a> Cursor<'a> {
 
     /// A root, where it stands next.
     fn bare_root(&mut self) -> Result<Root, LineError>
-        ensures { OnOk result (length self.new ≤ length self.old) }
+        ensures { length self.new ≤ length self.old }
     {
         if self.eat(b"s") {
             return Ok(Root::Text(self.quoted()?));
