@@ -15,7 +15,7 @@ use Rattle.office_core.specs.declared.history.Act.TheVariants as act
 use Rattle.run_text.specs.declared.line.Line.TheVariants as line
 use Rattle.run_text.specs.Lines.{line_text}
 
-example : Unit {0}
+pub example : Unit {0}
 example = tt
 
 a_post : line_text (line.Entry (record {
