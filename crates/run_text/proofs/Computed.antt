@@ -1,12 +1,11 @@
 -- Lines computed.
-use Rattle.std.specs.Prelude.{◌≡◌, ℕ, pos, negsuc, true, List, [], ◌∷◌, ◌++◌, codes}
+use Rattle.std.specs.Prelude.{◌≡◌, negsuc, true, [], ◌∷◌, ◌++◌, codes}
 use Rattle.std.proofs.Common.{refl}
 use Rattle.std.specs.Fmt.{digits}
-use Rattle.std.specs.Char.{digit_char}
 use lib.Utf8.{encode}
 use Rattle.json.specs.Print.{escape_byte}
 use Rattle.jolie_trees.specs.declared.root.Root.TheVariants as root
-use Rattle.jolie_trees.specs.Data.{Tree, node, Fields, no_fields, field, Trees, no_trees, tree}
+use Rattle.jolie_trees.specs.Data.{node, no_fields, field, no_trees, tree}
 use Rattle.behaviour_tree.specs.declared.words.Outcome.TheVariants as outcome
 use Rattle.behaviour_tree.specs.declared.words.Reason.TheVariants as reason
 use Rattle.behaviour_tree.specs.declared.words.Kind.TheVariants as kind

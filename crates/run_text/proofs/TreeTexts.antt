@@ -2,10 +2,9 @@
 use Rattle.std.proofs.Common.{◌≡◌, ℕ, ◌+◌, ◌-◌, ◌<◌, ◌≤◌, max, List, [], ◌∷◌, ◌++◌, length, get_or, take, drop, refl, ap, sym, ◌∙◌, arith, append_assoc, append-nil, codes, Result, Ok, Err, OnOk}
 use Rattle.std.proofs.lemmas.List.{take_all}
 use Rattle.jolie_trees.specs.declared.root.Root.{Root}
-use Rattle.jolie_trees.specs.Data.{Tree, node, Fields, no_fields, field, Trees, no_trees, tree}
+use Rattle.jolie_trees.specs.Data.{Tree, node, Trees}
 use Rattle.jolie_trees.specs.Trees.{children_of, root_of, levels, fields_levels, trees_levels}
 use Rattle.jolie_trees.specs.TreeView.{trees_of, fields_of}
-use Rattle.jolie_trees.proofs.Vectors.{levels-member}
 use Rattle.run_text.specs.Strings.{text_string}
 use Rattle.run_text.specs.Nodes.{root_text, tree_text, children_text, more_children, trees_text, more_trees, named}
 use Rattle.run_text.proofs.Turns.{turn}

@@ -1,9 +1,7 @@
 -- The text of a run's record, line by line.
 use Rattle.std.specs.Prelude.{ℕ, suc, List, [], ◌∷◌, ◌++◌, map, flat_map, length, codes, decimal}
 use Rattle.behaviour_tree.specs.declared.words.Event.{Event}
-use Rattle.office_core.specs.declared.history.Entry.{Entry}
 use Rattle.run_record.specs.declared.record.Record.{Record}
-use Rattle.run_record.specs.declared.record.Traffic.{Traffic}
 use Rattle.run_text.specs.declared.line.Line.{Line}
 use Rattle.run_text.specs.declared.line.Line.TheVariants as line
 use Rattle.run_text.specs.Strings.{bytes_string}

@@ -1,4 +1,4 @@
-use Rattle.std.proofs.Common.{◌≡◌, ◌++◌, ap, sym, ◌∙◌, length, map, flat_map}
+use Rattle.std.proofs.Common.{◌++◌, ap, ◌∙◌, length, map, flat_map}
 use Rattle.run_text.specs.declared.line.Line.TheVariants as line
 use Rattle.run_text.specs.Lines.{line_text, event_lines}
 use Rattle.run_text.proofs.Lines.{written_in_groups}

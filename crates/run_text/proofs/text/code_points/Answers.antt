@@ -1,4 +1,4 @@
-use Rattle.std.proofs.Common.{◌≡◌, get_or, refl, arith, flat_map, string_bytes}
+use Rattle.std.proofs.Common.{get_or, refl, arith, flat_map, string_bytes}
 use Rattle.std.specs.Char.{encode_utf8}
 use Rattle.run_text.proofs.Turns.{turn, ended}
 use Rattle.run_text.proofs.text.code_points.Goals as goal

@@ -18,7 +18,7 @@ push_children-loop-other-init t c =
     let others = c.into_iter-other-iterator.result in
     let it : c.into_iter-other-iterator.result ≡ c.next.new.self = cc (c.into_iter-other-iterator.ensures.into_iter_gives) in
     let split : c.children-children.result ≡ (c.in-Some.name.now, trees_of c.in-Some.trees.now) ∷ c.into_iter-other-iterator.result =
-        c.in-Some.ensures.steps ∙ ap (λ es. (c.in-Some.name.now, trees_of c.in-Some.trees.now) ∷ es) (sym it) in
+    c.in-Some.ensures.steps ∙ ap (λ es. (c.in-Some.name.now, trees_of c.in-Some.trees.now) ∷ es) (sym it) in
     record {
       same = children_begun c.args.tree.now c.children-children.result others c.in-Some.name.now (trees_of c.in-Some.trees.now) c.args.writer.now c.push.new.self c.push_named.new.writer
           c.children-children.ensures.all split c.in_ok-push-in-Some.ensures c.in_ok-push_named-in-Some.ensures;

@@ -1,4 +1,4 @@
-use Rattle.std.proofs.Common.{◌≡◌, refl, arith, flat_map, map}
+use Rattle.std.proofs.Common.{refl, arith, flat_map, map}
 use Rattle.run_text.specs.declared.line.Line.TheVariants as line
 use Rattle.run_text.specs.Lines.{line_text}
 use Rattle.run_text.proofs.Turns.{turn, ended}

@@ -1,7 +1,5 @@
-use Rattle.std.proofs.Common.{◌≡◌, [], ◌∷◌, ◌++◌, ap, sym, refl, ◌∙◌, codes, decimal, OnOk, subst}
+use Rattle.std.proofs.Common.{[], ◌∷◌, codes}
 use Rattle.run_text.specs.Strings.{bytes_string}
-use Rattle.run_text.specs.Words.{act_words, kind_word}
-use Rattle.run_text.specs.Writing.{after}
 use Rattle.run_text.proofs.Lines.{line_written_well}
 use Rattle.run_text.proofs.writer.Writer.program_line.Goals as goal
 
