@@ -1,0 +1,4 @@
+pub mod Computed
+pub mod Turns
+pub mod Lines
+pub mod TreeTexts

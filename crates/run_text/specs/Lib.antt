@@ -1,0 +1,5 @@
+pub mod Strings
+pub mod Nodes
+pub mod Words
+pub mod Lines
+pub mod Writing
