@@ -1,3 +1,4 @@
+pub mod Absent
 pub mod Acting
 pub mod Aside
 pub mod Begun
