@@ -1,4 +1,3 @@
-pub mod Unended
 pub mod Births
 pub mod Ends
 pub mod Foreign
@@ -6,7 +5,10 @@ pub mod Going
 pub mod Looping
 pub mod Offices
 pub mod Resting
+pub mod Rising
 pub mod Seeing
+pub mod Skipping
+pub mod Sleeping
 pub mod Stilling
 pub mod Teams
 pub mod Turning

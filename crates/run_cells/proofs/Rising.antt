@@ -1,6 +1,6 @@
 -- A list that rises: one number more, one less, and the first from a number on.
-use Rattle.std.proofs.Common.{◌≡◌, ◌≤◌, ◌<◌, ℕ, zero, suc, ◌+◌, List, [], ◌∷◌, ◌++◌, length, Option, None, Some, Result, refl, sym, ap, subst, ◌∙◌, arith, zero-le}
-use Rattle.std.specs.Prelude.{Err, IfNone, IfSome, MatchResult, Ok, drop, get_or, slice_get, take}
+use Rattle.std.proofs.Common.{◌≡◌, ◌⊎◌, ◌≤◌, ◌<◌, ℕ, zero, suc, ◌+◌, List, [], ◌∷◌, length, None, Some, inl, inr, refl, sym, ap, subst, ◌∙◌, arith, zero-le}
+use Rattle.std.specs.Prelude.{MatchResult, Result, get_or, slice_get}
 use Rattle.std.specs.List.{insert, remove}
 use Rattle.std.specs.List.Sorted.{IsBinarySearchResult}
 use Rattle.std.specs.Ordering.{nat_cmp}

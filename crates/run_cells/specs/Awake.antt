@@ -1,6 +1,6 @@
 -- These definitions serve the proofs alone: no promise speaks of them.
 -- Numbers of sessions on a list that rises.
-use Rattle.std.specs.Prelude.{◌≡◌, ℕ, ◌≤◌, ◌<◌, List, length, get_or}
+use Rattle.std.specs.Prelude.{◌≡◌, ◌⊎◌, ℕ, ◌≤◌, ◌<◌, List, length, get_or}
 
 -- A number is on a list.
 pub record IsOn (ns : List ℕ) (n : ℕ) : Type 0 where

@@ -1,6 +1,4 @@
 //! Which sessions are awake.
-ghost use Rattle.run_cells.specs.Awake.{HasNoneFrom, IsFirstFrom, IsRising, PutsOn, TakesOff};
-
 use std::alloc::{AllocError, Global};
 use std::marker::Model;
 
@@ -12,6 +10,7 @@ pub struct Awake {
 
 impl Model for Awake {
     ghost use Rattle.std.specs.Prelude.{List, ℕ};
+    ghost use Rattle.run_cells.specs.Awake.{IsRising};
 
     ghost Value = { List ℕ };
 
@@ -21,7 +20,8 @@ impl Model for Awake {
 }
 
 impl Awake {
-    ghost use Rattle.std.specs.Prelude.{◌≡◌, [], IfNone, IfSome, OnErr, OnOk};
+    ghost use Rattle.std.specs.Prelude.{◌≡◌, [], IfNone, IfSome, OnOk};
+    ghost use Rattle.run_cells.specs.Awake.{HasNoneFrom, IsFirstFrom, PutsOn, TakesOff};
 
     /// Nobody is awake.
     pub(crate) fn new(alloc: Global) -> Awake

@@ -7,6 +7,7 @@ mod look;
 mod news;
 mod parts;
 mod rounds;
+mod scratch;
 mod turns;
 mod worker;
 

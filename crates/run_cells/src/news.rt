@@ -134,11 +134,7 @@ fn answer(
 }
 
 /// Wakes the session that sent a message, if there is one and a session sent it.
-fn wake_sender(
-    awake: &mut Awake,
-    message: Option<&Message>,
-    count: u32,
-) -> Result<(), AllocError>
+fn wake_sender(awake: &mut Awake, message: Option<&Message>, count: u32) -> Result<(), AllocError>
     ensures awake { OnOk result (Widens count awake.old awake.new) }
     ensures woken { OnOk result (IfSome (option_copied message)
         (λ m. (s : ℕ) → is_sent_by s m ≡ true → IsWoken count awake.new s)) }

@@ -177,7 +177,7 @@ unsent-by s k actor a c other is = absurd (none-some c is)
 
 module _ (w : Setting) (past : Past) (s : ℕ) (e : Entry) (b : BringsNothing w past s e) where
   -- no message waits
-  queue_on : (ops : List ℕ) → queue past s ops ≡ [] → queue (then_one w past e) s ops ≡ []
+  pub queue_on : (ops : List ℕ) → queue past s ops ≡ [] → queue (then_one w past e) s ops ≡ []
   queue_on ops none = go (accepted_in w past e) refl
     where
       now : numbers_without (taken (then_one w past e)) (is_for s ops) 0 past.messages ≡ []
@@ -275,7 +275,7 @@ module _ (w : Setting) (past : Past) (s : ℕ) (e : Entry) (b : BringsNothing w 
       at-message q there =
           ap (λ (g : Option Message). elim g as (λ _. List Outcome) [ None ↦ [] | Some m ↦ answers_of w q n m ]) there
 
-  result_on : AreSent past → (k : ℕ) → result w past s k ≡ None → result w (then_one w past e) s k ≡ None
+  pub result_on : AreSent past → (k : ℕ) → result w past s k ≡ None → result w (then_one w past e) s k ≡ None
   result_on sent k none =
       ap (option_and_then (λ (c : Call). outcome_by w (then_one w past e) c c.placed)) (call_on k)
       ∙ go (call past s k) refl none
