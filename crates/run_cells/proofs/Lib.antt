@@ -2,6 +2,7 @@ pub mod Births
 pub mod Ends
 pub mod Foreign
 pub mod Going
+pub mod Hearing
 pub mod Looping
 pub mod Offices
 pub mod Resting

@@ -1,6 +1,6 @@
 -- A list that rises: one number more, one less, and the first from a number on.
-use Rattle.std.proofs.Common.{◌≡◌, ◌⊎◌, ◌≤◌, ◌<◌, ℕ, zero, suc, ◌+◌, List, [], ◌∷◌, length, None, Some, inl, inr, refl, sym, ap, subst, ◌∙◌, arith, zero-le}
-use Rattle.std.specs.Prelude.{MatchResult, Result, get_or, slice_get}
+use Rattle.std.proofs.Common.{◌≡◌, ◌⊎◌, ◌≤◌, ◌<◌, ℕ, zero, suc, ◌+◌, List, [], ◌∷◌, length, None, Some, inl, inr, refl, sym, ap, subst, ◌∙◌, arith, le_refl, zero-le}
+use Rattle.std.specs.Prelude.{Err, MatchResult, Ok, Result, get_or, if◌then◌else◌, is_ok, slice_get}
 use Rattle.std.specs.List.{insert, remove}
 use Rattle.std.specs.List.Sorted.{IsBinarySearchResult}
 use Rattle.std.specs.Ordering.{nat_cmp}
@@ -248,3 +248,59 @@ module _ (ns : List ℕ) (rising : IsRising ns) where
         by (earlier l) = let r : get_or ns on.place 0 < from = low on.place l in subst (λ k. k < from) on.is r
         by (at_it q) = let v : on.place < length ns = on.within in absurd (omega (arith, end, q))
         by (later j q l) = let v : on.place < length ns = on.within in absurd (omega (arith, end, q, l))
+
+-- ---- what a search gives, of a slice of the list
+
+module _ (ns ds : List ℕ) (n p : ℕ) (same : ds ≡ ns) (rising : IsRising ns) where
+  found-in : (r : Result ℕ ℕ) → IsBinarySearchResult (λ y. nat_cmp y n) ds r → Searched ns n r
+  found-in r found = search_of ns rising n r (subst (λ (l : List ℕ). IsBinarySearchResult (λ y. nat_cmp y n) l r) same found)
+
+  -- where it was not found it is put
+  module _ (found : IsBinarySearchResult (λ y. nat_cmp y n) ds (Err p)) where
+    pub put_there : {new : List ℕ} → new ≡ insert ns p n → PutsOn n ns new
+    put_there e = subst (PutsOn n ns) (sym e) (inserted ns p n (found-in (Err p) found).0)
+
+    pub put_rises : {X E : Type 0} {new : List ℕ} (r : Result X E) → new ≡ (if is_ok r then insert ns p n else ns) → IsRising new
+    put_rises (Ok x) e =
+        let f = found-in (Err p) found in
+        subst IsRising (sym e) (insert_rises ns p n f.0 rising f.1 f.2)
+    put_rises (Err x) e = subst IsRising (sym e) rising
+
+    -- and the next one stands there
+    pub next_there : (m : ℕ) → slice_get ns p ≡ Some m → IsFirstFrom n ns m
+    next_there m at =
+        let f = found-in (Err p) found in
+        first_there ns rising n p f.1 (λ k l u. below k (f.2 k l u)) m at
+      where
+        below : (k : ℕ) → n < get_or ns k 0 → n ≤ get_or ns k 0
+        below k l = omega arith
+
+    pub none_next : slice_get ns p ≡ None → HasNoneFrom n ns
+    none_next at =
+        let f = found-in (Err p) found in
+        none_there ns rising n p f.1 (λ k l u. below k (f.2 k l u)) at
+      where
+        below : (k : ℕ) → n < get_or ns k 0 → n ≤ get_or ns k 0
+        below k l = omega arith
+
+  -- where it was found it is taken off
+  module _ (found : IsBinarySearchResult (λ y. nat_cmp y n) ds (Ok p)) where
+    pub taken_off : {new : List ℕ} → new ≡ remove ns p → TakesOff n ns new
+    taken_off e =
+        let f = found-in (Ok p) found in
+        subst (TakesOff n ns) (sym e) (removed ns p n f.0 f.1)
+
+    pub taken_rises : {new : List ℕ} → new ≡ remove ns p → IsRising new
+    taken_rises e =
+        let f = found-in (Ok p) found in
+        subst IsRising (sym e) (remove_rises ns p n f.0 f.1 rising)
+
+    -- and it is the first from it on
+    pub itself : IsFirstFrom n ns n
+    itself =
+        let f = found-in (Ok p) found in
+        record { on = record { place = p; within = f.0; is = f.1 }; rising = le_refl n; least = λ m on l. l }
+
+-- the same of what the list is seen as
+pub seen_first : {ns seen : List ℕ} {from n : ℕ} → ns ≡ seen → IsFirstFrom from ns n → IsFirstFrom from seen n
+seen_first {from = from} {n = n} e x = subst (λ (l : List ℕ). IsFirstFrom from l n) e x

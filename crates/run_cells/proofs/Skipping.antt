@@ -1,10 +1,11 @@
 -- The next session that a round visits, and what lies between.
-use Rattle.std.proofs.Common.{◌≡◌, ◌≤◌, ◌<◌, ℕ, suc, ◌+◌, ◌-◌, Bool, Fits, w32, List, length, Option, None, Some, refl, sym, ap, subst, ◌∙◌, arith}
+use Rattle.std.proofs.Common.{◌≡◌, ◌≤◌, ◌<◌, ℕ, zero, suc, ◌+◌, ◌-◌, Bool, Fits, w32, List, [], ◌∷◌, length, Some, refl, sym, ap, subst, ◌∙◌, arith}
 use Rattle.std.specs.Prelude.{drop, map, slice_get}
 use Rattle.std.proofs.lemmas.List.{length-map}
 use Rattle.behaviour_tree.specs.PartsView.{parts_of}
 use Rattle.office_core.specs.Limits.{run_of}
 use Rattle.office_core.specs.declared.history.Entry.{Entry}
+use Rattle.office_core.specs.declared.message.Message.{Message}
 use Rattle.office_plain.specs.View.{entries_of}
 use Rattle.run_cells.specs.Awake.{IsOn, TakesOff}
 use Rattle.run_cells.specs.News.{IsHeard, Told}
@@ -12,6 +13,7 @@ use Rattle.run_cells.specs.RunStates.{AtWork, HasHeardAll, IsTold, Rests, RunSta
 use Rattle.run_cells.specs.Turns.{TurnsOf}
 use Rattle.run_cells.specs.Visits.{IsNext, IsNextFrom, Skips, awake, first_awake, none_awake, unborn}
 use Rattle.run_cells.proofs.Going.{rests_turns}
+use Rattle.run_cells.proofs.Offices.{along}
 use Rattle.run_cells.proofs.Sleeping.{rests_now, told_heard, told_laid, told_picks}
 
 -- a run state with other picks
@@ -117,18 +119,44 @@ next_fits f xs n few l =
 pub at_count : {X : Type 0} (xs : List X) (n count : ℕ) → count ≡ length xs → n ≤ length xs → count ≤ n → length xs ≡ n
 at_count xs n count e l m = omega (arith, e)
 
+pub next_within : {X : Type 0} (f : X → Stand) (xs : List X) (n k : ℕ) → n < k → length (map f xs) ≡ k → n + 1 ≤ length xs
+next_within f xs n k l e =
+    let same : length (map f xs) ≡ length xs = length-map xs f in
+    omega arith
+
 -- ---- looks
 
+-- the messages that the office keeps are those of the run
+messages-are : (c : RunState) → AtWork c → (c.office).kept.messages ≡ (past_in (state_of c)).messages
+messages-are c work =
+    along (λ w p. (c.office).kept.messages ≡ p.messages) (entries_of c.office) work.desk.program
+    ((c.office).tied work.desk.ready).messages
+
+-- An entry stands at a place.
+record Made (h : List Entry) (n : ℕ) : Type 0 where
+  pub entry : Entry
+  pub at : slice_get h n ≡ Some entry
+
+made : (h : List Entry) (n : ℕ) → n < length h → Made h n
+made [] n l = absurd (omega arith)
+made (e ∷ h) zero l = record { entry = e; at = refl }
+made (e ∷ h) (suc n) l = let m = made h n (omega arith) in record { entry = m.entry; at = m.at }
+
 -- the next entry was looked at
-pub heard_work : (c : RunState) (told : Told) (count : ℕ) (e : Entry) → AtWork c
-    → slice_get (entries_of c.office) c.heard ≡ Some e → count ≡ length c.stands
-    → IsHeard (past_in (state_of c)).messages count e c.told told → AtWork (with_told told (c.heard + 1) c)
-heard_work c told count e work at few looked = record {
-  desk = work.desk;
-  team = work.team;
-  told = subst (λ (k : ℕ). IsTold (state_of c) told k) (one-more c.heard)
-      (told_heard (state_of c) work.team c.told told c.heard count e at few looked work.told);
-}
+pub heard_work : (c : RunState) (told : Told) (heard count : ℕ) → AtWork c → c.heard < length (entries_of c.office)
+    → count ≡ length c.stands → heard ≡ c.heard + 1
+    → ((e : Entry) → slice_get (entries_of c.office) c.heard ≡ Some e → IsHeard (c.office).kept.messages count e c.told told)
+    → AtWork (with_told told heard c)
+heard_work c told heard count work within few is looked =
+    let m = made (entries_of c.office) c.heard within in
+    record {
+      desk = work.desk;
+      team = work.team;
+      told = subst (λ (k : ℕ). IsTold (state_of c) told k) (one-more c.heard ∙ sym is)
+          (told_heard (state_of c) work.team c.told told c.heard count m.entry m.at few
+          (subst (λ (ms : List Message). IsHeard ms count m.entry c.told told) (messages-are c work) (looked m.entry m.at))
+          work.told);
+    }
   where
     one-more : (k : ℕ) → suc k ≡ k + 1
     one-more k = omega arith
@@ -149,3 +177,13 @@ pub rests_after : {n : ℕ} {old mid new : State} {b : Bool} → TurnsOf n old m
     → slice_get new.stands n ≡ Some st → Rests new n st new.history
 rests_after {n} x e =
     subst (λ (s : State). (st : Stand) → slice_get s.stands n ≡ Some st → Rests s n st s.history) (sym e) (rests_turns x)
+
+-- no entry is left
+pub all_heard : (c : RunState) {entries : ℕ} → AtWork c → entries ≡ length (entries_of c.office) → entries ≤ c.heard
+    → HasHeardAll c
+all_heard c work e l =
+    let within : c.heard ≤ length (entries_of c.office) = work.told.within in
+    omega (arith, e, l)
+
+pub heard_less : (heard heard' most : ℕ) → heard' ≡ heard + 1 → heard < most → most - heard' < most - heard
+heard_less heard heard' most e l = omega arith

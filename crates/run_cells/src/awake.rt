@@ -1,4 +1,6 @@
 //! Which sessions are awake.
+ghost use Rattle.std.specs.Prelude.{◌≡◌, slice_get};
+
 use std::alloc::{AllocError, Global};
 use std::marker::Model;
 
@@ -61,10 +63,20 @@ impl Awake {
         ensures some { IfSome result (λ n. IsFirstFrom number self.now n) }
         ensures none { IfNone result (HasNoneFrom number self.now) }
     {
-        let place = match self.numbers.binary_search(&number) {
-            Ok(place) => place,
-            Err(place) => place,
-        };
-        self.numbers.get(place).copied()
+        let found = self.numbers.binary_search(&number);
+        match found {
+            Ok(_) => Some(number),
+            Err(place) => number_at(self.numbers.as_slice(), place),
+        }
+    }
+}
+
+/// The number at a place of a list.
+fn number_at(numbers: &[u32], place: usize) -> Option<u32>
+    ensures { result ≡ slice_get numbers.now place }
+{
+    match numbers.get(place) {
+        Some(number) => Some(*number),
+        None => None,
     }
 }

@@ -82,7 +82,7 @@ impl News {
         ensures heard { self.new.heard ≡ self.old.heard }
         ensures awake { OnOk result (Widens count self.old.awake self.new.awake) }
         ensures senders { OnOk result (Keeps self.old.senders.items self.new.senders.items) }
-        ensures received { OnOk result (IfSome (option_copied message)
+        ensures received { OnOk result (IfSome (option_copied message.entry)
             (λ m. IsReceived count m (told_in self.new))) }
     {
         let Some(message) = message else {
@@ -136,7 +136,7 @@ fn answer(
 /// Wakes the session that sent a message, if there is one and a session sent it.
 fn wake_sender(awake: &mut Awake, message: Option<&Message>, count: u32) -> Result<(), AllocError>
     ensures awake { OnOk result (Widens count awake.old awake.new) }
-    ensures woken { OnOk result (IfSome (option_copied message)
+    ensures woken { OnOk result (IfSome (option_copied message.entry)
         (λ m. (s : ℕ) → is_sent_by s m ≡ true → IsWoken count awake.new s)) }
 {
     let Some(message) = message else {
@@ -155,7 +155,7 @@ fn wake_senders(
     count: u32,
 ) -> Result<(), AllocError>
     ensures awake { OnOk result (Widens count awake.old awake.new) }
-    ensures woken { OnOk result (IfSome (option_copied senders)
+    ensures woken { OnOk result (IfSome (option_copied senders.entry)
         (λ ss. (s : ℕ) → list_any (nat_eq s) ss ≡ true → IsWoken count awake.new s)) }
 {
     match senders {

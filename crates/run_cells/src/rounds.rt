@@ -48,11 +48,16 @@ impl<S: Seating> Cells<'_, S> {
         ensures heard { OnOk result (HasHeardAll (run_state S.Session self.new)) }
         ensures work { OnOk result (AtWork (run_state S.Session self.new)) }
     {
-        let count = self.cells.len() as u32;
-        'entries: while self.news.heard < self.office.history().entries.len() {
+        let cells = self.cells.len();
+        let count = cells as u32;
+        'entries: loop {
+            let heard = self.news.heard;
+            let entries = self.office.history().entries.len();
+            if entries <= heard {
+                return Ok(());
+            }
             self.news.hear_next(&self.office, count)?;
         }
-        Ok(())
     }
 
     /// The number of the first session from a number on that is awake, or else of the one that is born next. Those
