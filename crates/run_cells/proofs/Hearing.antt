@@ -1,14 +1,19 @@
 -- What a look at an entry makes of who is awake, piece by piece.
 use Rattle.std.proofs.Common.{◌≡◌, ◌⊎◌, ◌≤◌, ◌<◌, ℕ, zero, suc, ◌+◌, Bool, true, false, ◌||◌, List, [], ◌∷◌, ◌++◌, length, Option, None, Some, inl, inr, refl, sym, ap, subst, ◌∙◌, arith}
-use Rattle.std.specs.Prelude.{Err, IfOk, Ok, OnOk, Result, get_or, nat_eq, slice_get, slice_set, take, unwrap_or}
+use Rattle.std.specs.Prelude.{Err, IfOk, IfSome, Ok, OnOk, Result, get_or, nat_eq, slice_get, slice_set, take, unwrap_or}
 use Rattle.std.specs.List.{list_any}
 use Rattle.std.proofs.lemmas.Bool.{eq-eqb, eqb-true, false≢true, or_left, or_right}
+use Rattle.std.proofs.lemmas.List.{take_all, take_more}
 use Rattle.std.proofs.lemmas.List.Folds.{list_any-append}
 use Rattle.std.proofs.lemmas.Option.{none-some}
+use Rattle.reqresp_book.specs.declared.origin.Origin.{Origin}
+use Rattle.reqresp_book.specs.declared.origin.Origin.TheVariants as origin
 use Rattle.office_core.specs.declared.history.Entry.{Entry}
 use Rattle.office_core.specs.declared.message.Message.{Message}
+use Rattle.office_core.specs.Laws.{number_said}
 use Rattle.run_quiet_laws.specs.Brings.{is_sent_by}
 use Rattle.run_cells.specs.Awake.{IsOn, PutsOn}
+use Rattle.run_cells.proofs.Teams.{same_of}
 use Rattle.run_cells.specs.News.{IsHeard, IsReceived, IsWoken, Keeps, Told, Widens, is_sender, may_reach}
 
 -- ---- who is awake
@@ -75,6 +80,18 @@ woken_more {count} {n} {old} {new} ss x woken before s h = by (list_any (nat_eq 
         last true e f = subst (IsWoken count new) (sym (eqb-true s n e)) woken
         last false e f = absurd (false≢true f)
 
+-- one session of a list after those before it
+pub woken_step : {count n : ℕ} {old new : List ℕ} (ss : List ℕ) (i : ℕ) → i < length ss → n ≡ get_or ss i n
+    → Widens count old new → IsWoken count new n → AreWoken count old (take i ss) → AreWoken count new (take (i + 1) ss)
+woken_step {count} {n} {old} {new} ss i l is x woken before =
+    subst (AreWoken count new) (sym (take_more ss i n l ∙ ap (λ (k : ℕ). take i ss ++ k ∷ []) (sym is)))
+    (woken_more (take i ss) x woken before)
+
+-- all of a list
+pub woken_all : {count : ℕ} {awake : List ℕ} (ss : List ℕ) (i : ℕ) → length ss ≤ i → AreWoken count awake (take i ss)
+    → AreWoken count awake ss
+woken_all {count} {awake} ss i l woken = subst (AreWoken count awake) (take_all i ss l) woken
+
 -- ---- senders
 
 pub keeps_not : (senders : List (List ℕ)) → Keeps senders senders
@@ -112,3 +129,59 @@ pub noted_set : (senders : List (List ℕ)) (t n : ℕ) (ss : List ℕ) → t < 
 noted_set [] t n ss l = absurd (omega arith)
 noted_set (xs ∷ senders) zero n ss l = any-last n ss
 noted_set (xs ∷ senders) (suc t) n ss l = noted_set senders t n ss (omega arith)
+
+-- ---- a message that came
+
+-- it came in at a port
+pub received_port : {count j i : ℕ} {m : Message} {told : Told} → m.origin ≡ origin.Port j i
+    → IsWoken count told.awake m.session → IsReceived count m told
+received_port {count} {j} {i} {m} {told} e woken = record {
+  woken = woken;
+  noted = λ s mine.
+      absurd (false≢true (sym (ap (λ (g : Origin). elim g [ origin.Port a b ↦ false | origin.Session t k ↦ nat_eq s t ]) e) ∙ mine));
+}
+
+-- a session sent it
+pub received_session : {count t k : ℕ} {m : Message} {told : Told} → m.origin ≡ origin.Session t k
+    → IsWoken count told.awake m.session → is_sender told.senders m.session t ≡ true → IsReceived count m told
+received_session {count} {t} {k} {m} {told} e woken noted = record {
+  woken = woken;
+  noted = λ s mine.
+      subst (λ (x : ℕ). is_sender told.senders m.session x ≡ true)
+      (sym (eqb-true s t (sym (ap (λ (g : Origin). elim g [ origin.Port a b ↦ false | origin.Session x y ↦ nat_eq s x ]) e) ∙ mine)))
+      noted;
+}
+
+-- ---- an entry
+
+-- it accepts no message
+pub heard_none : {ms : List Message} {count : ℕ} {e : Entry} {old new : Told} → None ≡ number_said e.act
+    → Widens count old.awake new.awake → new.senders ≡ old.senders
+    → ((s : ℕ) → may_reach ms old.senders s e ≡ true → IsWoken count new.awake s)
+    → IsHeard ms count e old new
+heard_none {old = old} {new = new} none widens same woken = record {
+  awake = widens;
+  senders = λ t s h. ap (λ (l : List (List ℕ)). is_sender l t s) same ∙ h;
+  mail = λ n m said there. absurd (none-some n (none ∙ said));
+  answer = woken;
+}
+
+-- it accepts a message
+pub heard_some : {ms : List Message} {count n : ℕ} {e : Entry} {old new : Told} (mid : List ℕ) (o : Option Message)
+    → Some n ≡ number_said e.act
+    → o ≡ slice_get ms n → Widens count old.awake mid
+    → ((s : ℕ) → may_reach ms old.senders s e ≡ true → IsWoken count mid s)
+    → Widens count mid new.awake → Keeps old.senders new.senders → IfSome o (λ m. IsReceived count m new)
+    → IsHeard ms count e old new
+heard_some {ms} {count} {n} {e} {old} {new} mid o said there widens woken widens' keeps received = record {
+  awake = widens_on widens widens';
+  senders = keeps;
+  mail = λ k m is at. by k m (same_of n k (said ∙ is)) at o there received;
+  answer = λ s h. woken_on widens' (woken s h);
+}
+  where
+    by : (k : ℕ) (m : Message) → n ≡ k → slice_get ms k ≡ Some m → (g : Option Message) → g ≡ slice_get ms n
+        → IfSome g (λ x. IsReceived count x new) → IsReceived count m new
+    by k m same at None f r = absurd (none-some m (f ∙ ap (slice_get ms) same ∙ at))
+    by k m same at (Some x) f r =
+        subst (λ (y : Message). IsReceived count y new) (same_of x m (f ∙ ap (slice_get ms) same ∙ at)) r

@@ -409,10 +409,10 @@ works_turn_ok new n (Err e) work ready same heard on x = tt
 -- ---- before the first call
 
 pub works_begun : {X : Type 0} (f : X → Stand) (program : Program) (o : Office) (budget : ℕ) (items : List X)
-    (picks : List ℕ) (told : Told) → parts_of o.program ≡ parts_of program → entries_of o ≡ [] → o.spent ≡ false → items ≡ []
-    → told.awake ≡ []
-    → AtWork (with_told told 0 (run_state_by program o budget (map f items) picks))
-works_begun f program o budget items picks told same none_yet ready nobody_yet nobody_awake = record {
+    (picks : List ℕ) (told : Told) (heard : ℕ) → parts_of o.program ≡ parts_of program → entries_of o ≡ [] → o.spent ≡ false → items ≡ []
+    → told.awake ≡ [] → heard ≡ 0
+    → AtWork (with_told told heard (run_state_by program o budget (map f items) picks))
+works_begun f program o budget items picks told heard same none_yet ready nobody_yet nobody_awake none_heard = record {
   desk = record {
     program = same;
     ready = ready;
@@ -425,7 +425,7 @@ works_begun f program o budget items picks told same none_yet ready nobody_yet n
     stands = map f (sym nobody_yet i);
     picks = picks;
   }) (team_begun (run_of (parts_of program)) budget picks refl);
-  told = told_begun (state_of (run_state_by program o budget (map f items) picks)) told (ap (map f) nobody_yet) nobody_awake;
+  told = told_as refl none_heard (told_begun (state_of (run_state_by program o budget (map f items) picks)) told (ap (map f) nobody_yet) nobody_awake);
 }
 
 -- ---- the next session

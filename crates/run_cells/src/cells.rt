@@ -106,7 +106,7 @@ impl<'p, S: Seating> Cells<'p, S> {
             ++ fresh (run_of (parts_of self.old.program)) birth.service ∷ []) }
         ensures awake { OnOk result (PutsOn number self.old.news.awake self.new.news.awake) }
         ensures heard { self.new.news.heard ≡ self.old.news.heard }
-        ensures senders { self.new.news.senders ≡ self.old.news.senders }
+        ensures senders { self.new.news.senders.items ≡ self.old.news.senders.items }
     {
         let session = S::start(self.alloc, &self.program, birth.service)?;
         let events = Items::new(self.alloc);

@@ -114,6 +114,7 @@ fn said(act: &Act) -> Option<u32>
 }
 
 /// Wakes those of the first so many sessions whose call an entry may answer.
+#[tactic(auto, using(crate::proofs::Hearing::widens_not))]
 fn answer(
     awake: &mut Awake,
     senders: &[Items<u32>],
@@ -134,6 +135,7 @@ fn answer(
 }
 
 /// Wakes the session that sent a message, if there is one and a session sent it.
+#[tactic(auto, using(crate::proofs::Hearing::widens_not))]
 fn wake_sender(awake: &mut Awake, message: Option<&Message>, count: u32) -> Result<(), AllocError>
     ensures awake { OnOk result (Widens count awake.old awake.new) }
     ensures woken { OnOk result (IfSome (option_copied message.entry)
@@ -149,6 +151,7 @@ fn wake_sender(awake: &mut Awake, message: Option<&Message>, count: u32) -> Resu
 }
 
 /// Wakes the sessions on a list, if there is one.
+#[tactic(auto, using(crate::proofs::Hearing::widens_not))]
 fn wake_senders(
     awake: &mut Awake,
     senders: Option<&Items<u32>>,
@@ -176,6 +179,7 @@ fn wake_all(awake: &mut Awake, sessions: &[u32], count: u32) -> Result<(), Alloc
 }
 
 /// Wakes a session that is one of the first so many.
+#[tactic(auto, using(crate::proofs::Hearing::widens_not, crate::proofs::Hearing::woken_not, crate::proofs::Hearing::put_widens, crate::proofs::Hearing::put_woken))]
 fn wake_one(awake: &mut Awake, session: u32, count: u32) -> Result<(), AllocError>
     ensures awake { OnOk result (Widens count awake.old awake.new) }
     ensures woken { OnOk result (IsWoken count awake.new session) }

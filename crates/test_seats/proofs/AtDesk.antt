@@ -38,7 +38,7 @@ pub opened_ok : {E : Type 0} (r : Result Office E) (program copy : Program) → 
     → IfOk r (λ o. parts_of o.program ≡ parts_of copy) → IfOk r (λ o. entries_of o ≡ []) → IfOk r (λ o. o.spent ≡ false)
     → IfOk r (IsOpened program)
 opened_ok (Ok o) program copy same ours none_yet ready =
-    works_begun {X = Stand} (λ x. x) program o 0 [] [] told_nothing (ours ∙ same) none_yet ready refl refl
+    works_begun {X = Stand} (λ x. x) program o 0 [] [] told_nothing 0 (ours ∙ same) none_yet ready refl refl refl
 opened_ok (Err e) program copy same ours none_yet ready = tt
 
 -- a message came in

@@ -43,7 +43,7 @@ returns-clause-adopts g c =
     one (somebody_born
     (run_state g.S.Session c.seat.new.self)
     c.in-Some.birth count c.adopt.new.self c.requires.work
-    (record { program = c.seat.ensures.program; budget = c.seat.ensures.budget; picks = c.seat.ensures.picks; stands = c.in_ok-seat.ensures.stands; awake = seated_awake _ _ c.in_ok-seat.ensures.awake (c.len-count.ensures ∙ c.args.self.now.cells.ok.0); senders = ap (λ (v : Vec (List ℕ)). v.items) c.seat.ensures.senders; heard = c.seat.ensures.heard })
+    (record { program = c.seat.ensures.program; budget = c.seat.ensures.budget; picks = c.seat.ensures.picks; stands = c.in_ok-seat.ensures.stands; awake = seated_awake _ _ c.in_ok-seat.ensures.awake (c.len-count.ensures ∙ c.args.self.now.cells.ok.0); senders = c.seat.ensures.senders; heard = c.seat.ensures.heard })
     (count_is _ c.args.self.now.cells.items count (c.len-count.ensures ∙ c.args.self.now.cells.ok.0)) c.seat.ensures.office
     (subst (λ b. Adds (adopt_entry count b) c.args.self.now.office c.adopt.new.self) c.in-Some.is c.in_ok-born.ensures.added)
     (sym c.in-Some.is ∙ c.in_ok-born.ensures.birth))
@@ -59,11 +59,11 @@ returns-clause-work g c =
     somebody_works
     (run_state g.S.Session c.seat.new.self)
     c.in-Some.birth count c.adopt.new.self c.requires.work
-    (record { program = c.seat.ensures.program; budget = c.seat.ensures.budget; picks = c.seat.ensures.picks; stands = c.in_ok-seat.ensures.stands; awake = seated_awake _ _ c.in_ok-seat.ensures.awake (c.len-count.ensures ∙ c.args.self.now.cells.ok.0); senders = ap (λ (v : Vec (List ℕ)). v.items) c.seat.ensures.senders; heard = c.seat.ensures.heard })
+    (record { program = c.seat.ensures.program; budget = c.seat.ensures.budget; picks = c.seat.ensures.picks; stands = c.in_ok-seat.ensures.stands; awake = seated_awake _ _ c.in_ok-seat.ensures.awake (c.len-count.ensures ∙ c.args.self.now.cells.ok.0); senders = c.seat.ensures.senders; heard = c.seat.ensures.heard })
     c.seat.ensures.office added c.in_ok-born.ensures.ready
     (somebody_born
     (run_state g.S.Session c.seat.new.self)
     c.in-Some.birth count c.adopt.new.self c.requires.work
-    (record { program = c.seat.ensures.program; budget = c.seat.ensures.budget; picks = c.seat.ensures.picks; stands = c.in_ok-seat.ensures.stands; awake = seated_awake _ _ c.in_ok-seat.ensures.awake (c.len-count.ensures ∙ c.args.self.now.cells.ok.0); senders = ap (λ (v : Vec (List ℕ)). v.items) c.seat.ensures.senders; heard = c.seat.ensures.heard })
+    (record { program = c.seat.ensures.program; budget = c.seat.ensures.budget; picks = c.seat.ensures.picks; stands = c.in_ok-seat.ensures.stands; awake = seated_awake _ _ c.in_ok-seat.ensures.awake (c.len-count.ensures ∙ c.args.self.now.cells.ok.0); senders = c.seat.ensures.senders; heard = c.seat.ensures.heard })
     (count_is _ c.args.self.now.cells.items count (c.len-count.ensures ∙ c.args.self.now.cells.ok.0)) c.seat.ensures.office added
     (sym c.in-Some.is ∙ c.in_ok-born.ensures.birth))
