@@ -173,6 +173,54 @@ unsent-by s k actor (act.Send l port op v wants r) c other is =
     ap (is_call s k) (sym (same_of is)) ∙ ap (λ b. b && nat_eq k l) other
 unsent-by s k actor a c other is = absurd (none-some c is)
 
+-- ---- what an entry leaves that answers no message
+
+module _ (w : Setting) (past : Past) (e : Entry) where
+  -- a message that it does not answer has no answer where it had none
+  pub answers_still : (n : ℕ) (m : Message) → reply_in n e ≡ None → ends m.session e ≡ false → stops e ≡ false
+      → answers_of w past n m ≡ [] → answers_of w (then_one w past e) n m ≡ []
+  answers_still n m unreplied unended unstopped none =
+      nil_both (at_once w m ++ by_session w (then_one w past e) n m)
+      (by_stop w (then_one w past e) m (by_session w (then_one w past e) n m))
+      (nil_both (at_once w m) (by_session w (then_one w past e) n m) at-first by-it) by-none
+    where
+      both : at_once w m ++ by_session w past n m ≡ []
+      both = front_nil (at_once w m ++ by_session w past n m) (by_stop w past m (by_session w past n m)) none
+
+      at-first : at_once w m ≡ []
+      at-first = front_nil (at_once w m) (by_session w past n m) both
+
+      was : by_session w past n m ≡ []
+      was = rest_nil (at_once w m) (by_session w past n m) both
+
+      replies-on : replies (then_one w past e) n ≡ []
+      replies-on =
+          given_same w past e (reply_in n) unreplied
+          ∙ front_nil (replies past n) (by_end w past n m) was
+
+      ended-on : has_ended (then_one w past e) m.session ≡ has_ended past m.session
+      ended-on =
+          some_same w past e (ends m.session) unended
+
+      left-on : by_end w (then_one w past e) n m ≡ []
+      left-on =
+          ap (λ q. one_if (is_request w m && q && not (was_taken (then_one w past e) n)) (outcome.Refused reason.SessionEnded))
+          ended-on
+          ∙ none_still (is_request w m && has_ended past m.session) (was_taken past n) (was_taken (then_one w past e) n)
+          (outcome.Refused reason.SessionEnded) (taken_on w past e n)
+          (rest_nil (replies past n) (by_end w past n m) was)
+
+      by-it : by_session w (then_one w past e) n m ≡ []
+      by-it = nil_both (replies (then_one w past e) n) (by_end w (then_one w past e) n m) replies-on left-on
+
+      by-none : by_stop w (then_one w past e) m (by_session w (then_one w past e) n m) ≡ []
+      by-none =
+          ap (by_stop w (then_one w past e) m) by-it
+          ∙ ap (λ q. one_if (is_request w m && q) (outcome.Refused reason.Stopped))
+          (some_same w past e stops unstopped)
+          ∙ ap (by_stop w past m) (sym was)
+          ∙ rest_nil (at_once w m ++ by_session w past n m) (by_stop w past m (by_session w past n m)) none
+
 -- ---- what an entry that brings nothing leaves
 
 module _ (w : Setting) (past : Past) (s : ℕ) (e : Entry) (b : BringsNothing w past s e) where
@@ -196,46 +244,9 @@ module _ (w : Setting) (past : Past) (s : ℕ) (e : Entry) (b : BringsNothing w 
   answers_on : (n : ℕ) (m : Message) → slice_get past.messages n ≡ Some m → is_sent_by s m ≡ true
       → answers_of w past n m ≡ [] → answers_of w (then_one w past e) n m ≡ []
   answers_on n m there mine none =
-      nil_both (at_once w m ++ by_session w (then_one w past e) n m)
-      (by_stop w (then_one w past e) m (by_session w (then_one w past e) n m))
-      (nil_both (at_once w m) (by_session w (then_one w past e) n m) at-first by-it) by-none
-    where
-      both : at_once w m ++ by_session w past n m ≡ []
-      both = front_nil (at_once w m ++ by_session w past n m) (by_stop w past m (by_session w past n m)) none
-
-      at-first : at_once w m ≡ []
-      at-first = front_nil (at_once w m) (by_session w past n m) both
-
-      was : by_session w past n m ≡ []
-      was = rest_nil (at_once w m) (by_session w past n m) both
-
-      replies-on : replies (then_one w past e) n ≡ []
-      replies-on =
-          given_same w past e (reply_in n) (unreplied-by past.messages s n m e.actor e.act there mine b.answer)
-          ∙ front_nil (replies past n) (by_end w past n m) was
-
-      ended-on : has_ended (then_one w past e) m.session ≡ has_ended past m.session
-      ended-on =
-          some_same w past e (ends m.session) (unended-by past.messages s n m e.actor e.act there mine b.answer)
-
-      left-on : by_end w (then_one w past e) n m ≡ []
-      left-on =
-          ap (λ q. one_if (is_request w m && q && not (was_taken (then_one w past e) n)) (outcome.Refused reason.SessionEnded))
-          ended-on
-          ∙ none_still (is_request w m && has_ended past m.session) (was_taken past n) (was_taken (then_one w past e) n)
-          (outcome.Refused reason.SessionEnded) (taken_on w past e n)
-          (rest_nil (replies past n) (by_end w past n m) was)
-
-      by-it : by_session w (then_one w past e) n m ≡ []
-      by-it = nil_both (replies (then_one w past e) n) (by_end w (then_one w past e) n m) replies-on left-on
-
-      by-none : by_stop w (then_one w past e) m (by_session w (then_one w past e) n m) ≡ []
-      by-none =
-          ap (by_stop w (then_one w past e) m) by-it
-          ∙ ap (λ q. one_if (is_request w m && q) (outcome.Refused reason.Stopped))
-          (some_same w past e stops (unstopped-by past.messages s e.actor e.act b.answer))
-          ∙ ap (by_stop w past m) (sym was)
-          ∙ rest_nil (at_once w m ++ by_session w past n m) (by_stop w past m (by_session w past n m)) none
+      answers_still w past e n m (unreplied-by past.messages s n m e.actor e.act there mine b.answer)
+      (unended-by past.messages s n m e.actor e.act there mine b.answer)
+      (unstopped-by past.messages s e.actor e.act b.answer) none
 
   -- its calls stay
   call_on : (k : ℕ) → call (then_one w past e) s k ≡ call past s k
