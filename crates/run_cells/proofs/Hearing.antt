@@ -48,17 +48,6 @@ woken_not ns l u = absurd (omega (arith, l, u))
 pub woken_on : {count n : ℕ} {old new : List ℕ} → Widens count old new → IsWoken count old n → IsWoken count new n
 woken_on {n = n} x woken l = x.stay n (woken l)
 
--- where the call that woke it went well
-pub put_widens : {count n : ℕ} {E : Type 0} {old new : List ℕ} (r : Result (Unit {0}) E) → n < count → OnOk r (PutsOn n old new)
-    → OnOk r (Widens count old new)
-put_widens (Ok x) l put = widens_put l put
-put_widens (Err x) l put = tt
-
-pub put_woken : {count n : ℕ} {E : Type 0} {old new : List ℕ} (r : Result (Unit {0}) E) → OnOk r (PutsOn n old new)
-    → OnOk r (IsWoken count new n)
-put_woken (Ok x) put = λ l. put.here
-put_woken (Err x) put = tt
-
 -- ---- those on a list, one after the other
 
 -- those before a place are awake
@@ -81,11 +70,10 @@ woken_more {count} {n} {old} {new} ss x woken before s h = by (list_any (nat_eq 
         last false e f = absurd (false≢true f)
 
 -- one session of a list after those before it
-pub woken_step : {count n : ℕ} {old new : List ℕ} (ss : List ℕ) (i : ℕ) → i < length ss → n ≡ get_or ss i n
-    → Widens count old new → IsWoken count new n → AreWoken count old (take i ss) → AreWoken count new (take (i + 1) ss)
-woken_step {count} {n} {old} {new} ss i l is x woken before =
-    subst (AreWoken count new) (sym (take_more ss i n l ∙ ap (λ (k : ℕ). take i ss ++ k ∷ []) (sym is)))
-    (woken_more (take i ss) x woken before)
+pub woken_step : {count : ℕ} {old new : List ℕ} (ss : List ℕ) (i : ℕ) → i < length ss → Widens count old new
+    → IsWoken count new (get_or ss i 0) → AreWoken count old (take i ss) → AreWoken count new (take (i + 1) ss)
+woken_step {count} {old} {new} ss i l x woken before =
+    subst (AreWoken count new) (sym (take_more ss i 0 l)) (woken_more (take i ss) x woken before)
 
 -- all of a list
 pub woken_all : {count : ℕ} {awake : List ℕ} (ss : List ℕ) (i : ℕ) → length ss ≤ i → AreWoken count awake (take i ss)
@@ -97,8 +85,8 @@ woken_all {count} {awake} ss i l woken = subst (AreWoken count awake) (take_all 
 pub keeps_not : (senders : List (List ℕ)) → Keeps senders senders
 keeps_not senders t s h = h
 
-pub keeps_on : {old mid new : List (List ℕ)} → Keeps old mid → Keeps mid new → Keeps old new
-keeps_on x y t s h = y t s (x t s h)
+pub keeps_on : (old mid new : List (List ℕ)) → Keeps old mid → Keeps mid new → Keeps old new
+keeps_on old mid new x y t s h = y t s (x t s h)
 
 -- an empty list more
 pub keeps_more : (senders : List (List ℕ)) (none : List ℕ) → Keeps senders (senders ++ none ∷ [])
@@ -129,6 +117,20 @@ pub noted_set : (senders : List (List ℕ)) (t n : ℕ) (ss : List ℕ) → t < 
 noted_set [] t n ss l = absurd (omega arith)
 noted_set (xs ∷ senders) zero n ss l = any-last n ss
 noted_set (xs ∷ senders) (suc t) n ss l = noted_set senders t n ss (omega arith)
+
+-- where one more was put on the list of a session
+pub note_kept : {X E : Type 0} (r : Result X E) (old mid : List (List ℕ)) (t n : ℕ) (ss new : List ℕ) → Keeps old mid
+    → t < length mid → ss ≡ get_or mid t ss → OnOk r (new ≡ ss ++ n ∷ []) → OnOk r (Keeps old (slice_set mid t new))
+note_kept (Ok x) old mid t n ss new keeps l is e =
+    keeps_on old mid (slice_set mid t new) keeps
+    (subst (λ (ys : List ℕ). Keeps mid (slice_set mid t ys)) (sym e) (keeps_set mid t n ss l is))
+note_kept (Err x) old mid t n ss new keeps l is e = tt
+
+pub note_noted : {X E : Type 0} (r : Result X E) (mid : List (List ℕ)) (t n : ℕ) (ss new : List ℕ) → t < length mid
+    → OnOk r (new ≡ ss ++ n ∷ []) → OnOk r (is_sender (slice_set mid t new) t n ≡ true)
+note_noted (Ok x) mid t n ss new l e =
+    subst (λ (ys : List ℕ). is_sender (slice_set mid t ys) t n ≡ true) (sym e) (noted_set mid t n ss l)
+note_noted (Err x) mid t n ss new l e = tt
 
 -- ---- a message that came
 

@@ -290,6 +290,11 @@ seat_more {X} f items items' x st longer is =
 pub count_is : {X : Type 0} (f : X → Stand) (items : List X) (count : ℕ) → count ≡ length items → count ≡ length (map f items)
 count_is f items count e = e ∙ sym (length-map items f)
 
+-- where a call went well, what holds whatever it gave
+pub on_ok : {X E P : Type 0} (r : Result X E) → P → OnOk r P
+on_ok (Ok x) p = p
+on_ok (Err e) p = tt
+
 -- the number of the next session is its place
 pub seated_awake : {X : Type 0} (f : X → Stand) (items : List X) {old new : List ℕ} {n : ℕ} → PutsOn n old new
     → n ≡ length items → PutsOn (length (map f items)) old new

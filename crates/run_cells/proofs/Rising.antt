@@ -1,6 +1,6 @@
 -- A list that rises: one number more, one less, and the first from a number on.
-use Rattle.std.proofs.Common.{◌≡◌, ◌⊎◌, ◌≤◌, ◌<◌, ℕ, zero, suc, ◌+◌, List, [], ◌∷◌, length, None, Some, inl, inr, refl, sym, ap, subst, ◌∙◌, arith, le_refl, zero-le}
-use Rattle.std.specs.Prelude.{Err, MatchResult, Ok, Result, get_or, if◌then◌else◌, is_ok, slice_get}
+use Rattle.std.proofs.Common.{◌≡◌, ◌⊎◌, ◌≤◌, ◌<◌, ℕ, zero, suc, ◌+◌, List, [], ◌∷◌, length, None, Some, inl, inr, refl, sym, ap, subst, ◌∙◌, arith, zero-le}
+use Rattle.std.specs.Prelude.{Err, IfNone, IfSome, MatchResult, Ok, Option, Result, get_or, if◌then◌else◌, is_ok, slice_get}
 use Rattle.std.specs.List.{insert, remove}
 use Rattle.std.specs.List.Sorted.{IsBinarySearchResult}
 use Rattle.std.specs.Ordering.{nat_cmp}
@@ -283,6 +283,14 @@ module _ (ns ds : List ℕ) (n p : ℕ) (same : ds ≡ ns) (rising : IsRising ns
         below : (k : ℕ) → n < get_or ns k 0 → n ≤ get_or ns k 0
         below k l = omega arith
 
+    pub some_next : {seen : List ℕ} (o : Option ℕ) → o ≡ slice_get ns p → ns ≡ seen → IfSome o (λ m. IsFirstFrom n seen m)
+    some_next None e v = tt
+    some_next (Some m) e v = subst (λ (l : List ℕ). IsFirstFrom n l m) v (next_there m (sym e))
+
+    pub nothing_next : {seen : List ℕ} (o : Option ℕ) → o ≡ slice_get ns p → ns ≡ seen → IfNone o (HasNoneFrom n seen)
+    nothing_next None e v = subst (HasNoneFrom n) v (none_next (sym e))
+    nothing_next (Some m) e v = tt
+
   -- where it was found it is taken off
   module _ (found : IsBinarySearchResult (λ y. nat_cmp y n) ds (Ok p)) where
     pub taken_off : {new : List ℕ} → new ≡ remove ns p → TakesOff n ns new
@@ -294,13 +302,3 @@ module _ (ns ds : List ℕ) (n p : ℕ) (same : ds ≡ ns) (rising : IsRising ns
     taken_rises e =
         let f = found-in (Ok p) found in
         subst IsRising (sym e) (remove_rises ns p n f.0 f.1 rising)
-
-    -- and it is the first from it on
-    pub itself : IsFirstFrom n ns n
-    itself =
-        let f = found-in (Ok p) found in
-        record { on = record { place = p; within = f.0; is = f.1 }; rising = le_refl n; least = λ m on l. l }
-
--- the same of what the list is seen as
-pub seen_first : {ns seen : List ℕ} {from n : ℕ} → ns ≡ seen → IsFirstFrom from ns n → IsFirstFrom from seen n
-seen_first {from = from} {n = n} e x = subst (λ (l : List ℕ). IsFirstFrom from l n) e x

@@ -30,10 +30,10 @@ with_picks picks c = record {
 
 module _ (c : RunState) (number n : ℕ) (work : AtWork c) (all : HasHeardAll c) (within : number ≤ length c.stands)
     (x : IsNextFrom c number n) where
-  pub next_is : IsNext c n
-  next_is = go x
+  pub next_is : (picks : List ℕ) → IsNext (with_picks picks c) n
+  next_is picks = go x
     where
-      go : IsNextFrom c number n → IsNext c n
+      go : IsNextFrom c number n → IsNext (with_picks picks c) n
       go (first_awake f) = awake f.on
       go (none_awake none e) = unborn e
 

@@ -78,6 +78,7 @@ impl News {
     }
 
     /// Looks at a message that came, if one did: it wakes its session, and the session that sent it is noted.
+    #[tactic(auto, using(crate::proofs::Hearing::received_port, crate::proofs::Hearing::received_session, crate::proofs::Hearing::keeps_not, crate::proofs::Hearing::widens_not))]
     fn receive(&mut self, message: Option<&Message>, count: u32) -> Result<(), AllocError>
         ensures heard { self.new.heard ≡ self.old.heard }
         ensures awake { OnOk result (Widens count self.old.awake self.new.awake) }
@@ -179,7 +180,6 @@ fn wake_all(awake: &mut Awake, sessions: &[u32], count: u32) -> Result<(), Alloc
 }
 
 /// Wakes a session that is one of the first so many.
-#[tactic(auto, using(crate::proofs::Hearing::widens_not, crate::proofs::Hearing::woken_not, crate::proofs::Hearing::put_widens, crate::proofs::Hearing::put_woken))]
 fn wake_one(awake: &mut Awake, session: u32, count: u32) -> Result<(), AllocError>
     ensures awake { OnOk result (Widens count awake.old awake.new) }
     ensures woken { OnOk result (IsWoken count awake.new session) }

@@ -8,7 +8,7 @@ loop-session-init c = record { awake = widens_not _ _; woken = woken_none _ _ }
 pub loop-session-preserved : goal.loop-session-preserved
 loop-session-preserved c = record {
   awake = widens_on c.loop-session.invariant.awake c.in_ok-wake_one.ensures.awake;
-  woken = woken_step c.args.sessions.now c.loop-session.session-index c.loop-session-test.true c.session-item.is
+  woken = woken_step c.args.sessions.now c.loop-session.session-index c.loop-session-test.true
       c.in_ok-wake_one.ensures.awake c.in_ok-wake_one.ensures.woken c.loop-session.invariant.woken;
 }
 

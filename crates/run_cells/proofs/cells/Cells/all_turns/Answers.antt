@@ -1,5 +1,5 @@
 -- Session after session that is awake has its turns, until one was not born.
-use Rattle.std.proofs.Common.{length, sym, ap, ◌∙◌, zero-le}
+use Rattle.std.proofs.Common.{ap, false, length, zero-le, ◌∙◌}
 use Rattle.run_cells.specs.RunStates.{State}
 use Rattle.run_cells.proofs.Going.{stands_turns, there_comes}
 use Rattle.run_cells.proofs.Looping.{came_below, came_here, came_less, came_nobody, turned_below}
@@ -17,12 +17,12 @@ round-init g c = record {
   round = rounding_at false c.in_ok-hear_all.ensures.same (rounding_start _);
 }
 
-pub turns_of-did-requires-clause-there : goal.turns_of-did-requires-clause-there
-turns_of-did-requires-clause-there g c =
+pub turns_of-requires-clause-there : goal.turns_of-requires-clause-there
+turns_of-requires-clause-there g c =
     came_below _ _ _ (there_comes (came_here c.in_ok-came.ensures.came c.if-not-came.false))
 
-pub turns_of-did-requires-clause-awake : goal.turns_of-did-requires-clause-awake
-turns_of-did-requires-clause-awake g c = c.in_ok-came.ensures.awake c.if-not-came.false
+pub turns_of-requires-clause-awake : goal.turns_of-requires-clause-awake
+turns_of-requires-clause-awake g c = c.in_ok-came.ensures.awake c.if-not-came.false
 
 pub lay-requires-clause-there : goal.lay-requires-clause-there
 lay-requires-clause-there g c =
@@ -45,7 +45,7 @@ round-preserved g c =
       heard = left.heard;
       within = next_within _ _ _ _ (there_comes (came_here came.came c.if-not-came.false))
           (ap (λ (s : State). length s.stands) same ∙ stands_turns went.turns);
-      program = left.program ∙ c.hear_all-2.ensures.program ∙ went.program ∙ came.program ∙ skip.program ∙ i.program;
+      program = left.program ∙ c.hear_all-in-round.ensures.program ∙ went.program ∙ came.program ∙ skip.program ∙ i.program;
       round = rounding_at c.either-both.result same
           (rounding_next c.round.moved c.either-both.result c.either-both.ensures
           (rounding_skips c.round.moved i.round skip.skipped)

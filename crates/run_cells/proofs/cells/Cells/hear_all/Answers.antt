@@ -28,10 +28,10 @@ pub entries-preserved : goal.entries-preserved
 entries-preserved g c =
     let i = c.entries.invariant in
     record {
-      work = heard_work _ (told_in c.hear_next.new.self) c.hear_next.new.self.heard c.count i.work
+      work = heard_work _ (told_in c.hear_next.new.self) c.hear_next.new.self.heard c.len-cells.result i.work
           (subst (λ (k : ℕ). c.entries.self.news.heard < k)
           (c.len-entries.ensures ∙ c.history.result.now.entries.ok.0 ∙ ap length c.history.ensures) c.if-entries-heard.false)
-          (count_is _ c.entries.self.cells.items c.count i.count) c.in_ok-hear_next.ensures.heard
+          (count_is _ c.entries.self.cells.items c.len-cells.result i.count) c.in_ok-hear_next.ensures.heard
           c.in_ok-hear_next.ensures.looked;
       program = i.program;
       same = i.same;

@@ -6,8 +6,8 @@ use Rattle.run_cells.proofs.Skipping.{laid_work}
 use Rattle.run_cells.proofs.Teams.{few_stands}
 use Rattle.run_cells.proofs.cells.Cells.lay.Goals as goal
 
-pub overflow_cast-lay : goal.overflow_cast-lay
-overflow_cast-lay g c =
+pub overflow_cast-number : goal.overflow_cast-number
+overflow_cast-number g c =
     cell_fits _ c.args.self.now.cells.items c.args.number (few_stands _ c.requires.work.team) c.requires.there
 
 pub returns-clause-work : goal.returns-clause-work

@@ -5,8 +5,8 @@ use Rattle.run_cells.proofs.Skipping.{next_fits, unborn_next}
 use Rattle.run_cells.proofs.Teams.{few_stands}
 use Rattle.run_cells.proofs.cells.Cells.next_from.Goals as goal
 
-pub overflow_cast-first_from : goal.overflow_cast-first_from
-overflow_cast-first_from g c =
+pub overflow_cast-number : goal.overflow_cast-number
+overflow_cast-number g c =
     next_fits _ c.args.self.now.cells.items c.args.number (few_stands _ c.requires.work.team) c.requires.within
 
 pub returns-in-Some : goal.returns-in-Some

@@ -12,6 +12,7 @@ pub returns-clause-next : goal.returns-clause-next
 returns-clause-next g c =
     next_is _ c.args.number _ c.requires.work c.requires.heard
     (within_cells _ c.args.self.now.cells.items c.requires.within) c.next_from-next.ensures
+    c.picks_behind-self.result.now
 
 pub returns-clause-skipped : goal.returns-clause-skipped
 returns-clause-skipped g c =
