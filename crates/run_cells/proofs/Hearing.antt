@@ -1,20 +1,15 @@
 -- What a look at an entry makes of who is awake, piece by piece.
-use Rattle.std.proofs.Common.{◌≡◌, ◌⊎◌, ◌≤◌, ◌<◌, ℕ, zero, suc, ◌+◌, Bool, true, false, ◌||◌, List, [], ◌∷◌, ◌++◌, length, Option, None, Some, inl, inr, refl, sym, ap, subst, ◌∙◌, arith}
-use Rattle.std.specs.Prelude.{Err, IfOk, IfSome, Ok, OnOk, Result, get_or, nat_eq, slice_get, slice_set, take, unwrap_or}
+use Rattle.std.proofs.Common.{◌≡◌, ◌⊎◌, ◌≤◌, ◌<◌, ℕ, zero, suc, ◌+◌, Bool, true, false, ◌||◌, List, [], ◌∷◌, ◌++◌, length, inl, inr, refl, sym, ap, subst, ◌∙◌, arith}
+use Rattle.std.specs.Prelude.{Err, Ok, OnOk, Result, get_or, nat_eq, slice_set, take}
 use Rattle.std.specs.List.{list_any}
 use Rattle.std.proofs.lemmas.Bool.{eq-eqb, eqb-true, false≢true, or_left, or_right}
 use Rattle.std.proofs.lemmas.List.{take_all, take_more}
 use Rattle.std.proofs.lemmas.List.Folds.{list_any-append}
-use Rattle.std.proofs.lemmas.Option.{none-some}
 use Rattle.reqresp_book.specs.declared.origin.Origin.{Origin}
 use Rattle.reqresp_book.specs.declared.origin.Origin.TheVariants as origin
-use Rattle.office_core.specs.declared.history.Entry.{Entry}
 use Rattle.office_core.specs.declared.message.Message.{Message}
-use Rattle.office_core.specs.Laws.{number_said}
-use Rattle.run_quiet_laws.specs.Brings.{is_sent_by}
 use Rattle.run_cells.specs.Awake.{IsOn, PutsOn}
-use Rattle.run_cells.proofs.Teams.{same_of}
-use Rattle.run_cells.specs.News.{IsHeard, IsReceived, IsWoken, Keeps, Told, Widens, is_sender, may_reach}
+use Rattle.run_cells.specs.News.{IsReceived, IsWoken, Keeps, Told, Widens, is_sender}
 
 -- ---- who is awake
 
@@ -40,10 +35,6 @@ widens_put {count} {n} {old} {new} l put = record {
     go : (m : ℕ) → IsOn old m ⊎ (m ≡ n) → IsOn old m ⊎ (m < count)
     go m (inl on) = inl on
     go m (inr e) = inr (subst (λ (k : ℕ). k < count) (sym e) l)
-
--- a session that is not one of the first so many need not be awake
-pub woken_not : {count n : ℕ} (ns : List ℕ) → count ≤ n → IsWoken count ns n
-woken_not ns l u = absurd (omega (arith, l, u))
 
 pub woken_on : {count n : ℕ} {old new : List ℕ} → Widens count old new → IsWoken count old n → IsWoken count new n
 woken_on {n = n} x woken l = x.stay n (woken l)
@@ -153,37 +144,3 @@ received_session {count} {t} {k} {m} {told} e woken noted = record {
       (sym (eqb-true s t (sym (ap (λ (g : Origin). elim g [ origin.Port a b ↦ false | origin.Session x y ↦ nat_eq s x ]) e) ∙ mine)))
       noted;
 }
-
--- ---- an entry
-
--- it accepts no message
-pub heard_none : {ms : List Message} {count : ℕ} {e : Entry} {old new : Told} → None ≡ number_said e.act
-    → Widens count old.awake new.awake → new.senders ≡ old.senders
-    → ((s : ℕ) → may_reach ms old.senders s e ≡ true → IsWoken count new.awake s)
-    → IsHeard ms count e old new
-heard_none {old = old} {new = new} none widens same woken = record {
-  awake = widens;
-  senders = λ t s h. ap (λ (l : List (List ℕ)). is_sender l t s) same ∙ h;
-  mail = λ n m said there. absurd (none-some n (none ∙ said));
-  answer = woken;
-}
-
--- it accepts a message
-pub heard_some : {ms : List Message} {count n : ℕ} {e : Entry} {old new : Told} (mid : List ℕ) (o : Option Message)
-    → Some n ≡ number_said e.act
-    → o ≡ slice_get ms n → Widens count old.awake mid
-    → ((s : ℕ) → may_reach ms old.senders s e ≡ true → IsWoken count mid s)
-    → Widens count mid new.awake → Keeps old.senders new.senders → IfSome o (λ m. IsReceived count m new)
-    → IsHeard ms count e old new
-heard_some {ms} {count} {n} {e} {old} {new} mid o said there widens woken widens' keeps received = record {
-  awake = widens_on widens widens';
-  senders = keeps;
-  mail = λ k m is at. by k m (same_of n k (said ∙ is)) at o there received;
-  answer = λ s h. woken_on widens' (woken s h);
-}
-  where
-    by : (k : ℕ) (m : Message) → n ≡ k → slice_get ms k ≡ Some m → (g : Option Message) → g ≡ slice_get ms n
-        → IfSome g (λ x. IsReceived count x new) → IsReceived count m new
-    by k m same at None f r = absurd (none-some m (f ∙ ap (slice_get ms) same ∙ at))
-    by k m same at (Some x) f r =
-        subst (λ (y : Message). IsReceived count y new) (same_of x m (f ∙ ap (slice_get ms) same ∙ at)) r

@@ -1,5 +1,5 @@
 -- The next session that a round visits, and what lies between.
-use Rattle.std.proofs.Common.{◌≡◌, ◌≤◌, ◌<◌, ℕ, zero, suc, ◌+◌, ◌-◌, Bool, Fits, w32, List, [], ◌∷◌, length, Some, refl, sym, ap, subst, ◌∙◌, arith}
+use Rattle.std.proofs.Common.{◌≡◌, ◌≤◌, ◌<◌, ℕ, zero, suc, ◌+◌, ◌-◌, Bool, Fits, w32, List, [], ◌∷◌, length, Some, refl, sym, subst, ◌∙◌, arith}
 use Rattle.std.specs.Prelude.{drop, map, slice_get}
 use Rattle.std.proofs.lemmas.List.{length-map}
 use Rattle.behaviour_tree.specs.PartsView.{parts_of}

@@ -1,6 +1,6 @@
 -- Sessions that sleep: what one rests by stays so, and what was told is so after entries, adoptions, turns and looks.
 use Rattle.std.proofs.Common.{◌≡◌, ◌⊎◌, ◌≤◌, ◌<◌, ℕ, zero, suc, ◌+◌, ◌-◌, ◌%◌, Bool, true, false, ◌&&◌, ◌||◌, List, [], ◌∷◌, ◌++◌, length, Option, None, Some, inl, inr, refl, sym, ap, subst, ◌∙◌, arith, le_refl, zero-le}
-use Rattle.std.specs.Prelude.{Contains, drop, get_or, nat_eq, not, option_map, slice_get, slice_index, slice_set, take, unwrap_or}
+use Rattle.std.specs.Prelude.{drop, get_or, nat_eq, not, option_map, slice_get, slice_index, slice_set, take, unwrap_or}
 use Rattle.std.specs.List.{list_all, list_any}
 use Rattle.std.proofs.Math.Nat.{mod-lt}
 use Rattle.std.proofs.lemmas.Bool.{and_parts, eq-eqb, eqb-true, false≢true, or_left, or_right}
@@ -11,30 +11,29 @@ use Rattle.office_core.specs.declared.history.Act.TheVariants as act
 use Rattle.office_core.specs.declared.history.Entry.{Entry}
 use Rattle.office_core.specs.declared.message.Message.{Message}
 use Rattle.office_core.specs.Limits.{Setting}
-use Rattle.office_core.specs.Past.{Past, is_running, nothing_yet, some_entry, stops}
+use Rattle.office_core.specs.Past.{Past, nothing_yet, some_entry, stops}
 use Rattle.office_core.specs.Accepted.{accepted_in, past_of, then_all, then_one, with_message}
-use Rattle.office_core.specs.Laws.{number_said}
 use Rattle.office_core.specs.Legal.{AreLegal, IsLegal, IsLegalEntry}
 use Rattle.office_core.proofs.Longer.{past_more}
 use Rattle.office_core.proofs.OneAnswer.{message_stays}
 use Rattle.office_core.proofs.Said.{accepts_by_reply}
 use Rattle.session_turn.specs.Seen.{AreForeign, Seat}
-use Rattle.session_turn.specs.Lives.{Moment, moment}
-use Rattle.session_turn.specs.Turns.{AreEnabled, IsAbsent, NoneAllowed, Passed, from_pick}
+use Rattle.session_turn.specs.Lives.{Moment}
+use Rattle.session_turn.specs.Turns.{IsAbsent, NoneAllowed, Passed, from_pick}
 use Rattle.session_turn.specs.declared.turn.Turn.{Turn}
 use Rattle.session_turn.specs.declared.turn.Turn.TheVariants as turn
 use Rattle.session_turn.proofs.Growing.{foreign_both, grew_alone, grew_not}
 use Rattle.session_turn.proofs.Histories.{some_of}
-use Rattle.run_quiet_laws.specs.Brings.{BringsNothing, is_sent_by, may_answer, sent_one}
+use Rattle.run_quiet_laws.specs.Brings.{BringsNothing, is_sent_by, may_answer}
 use Rattle.run_quiet_laws.proofs.Absent.{absent_on}
 use Rattle.run_quiet_laws.proofs.Acting.{each_turn}
-use Rattle.run_cells.specs.Awake.{HasNoneFrom, IsFirstFrom, IsOn, PutsOn, TakesOff}
+use Rattle.run_cells.specs.Awake.{IsOn, PutsOn, TakesOff}
 use Rattle.run_cells.specs.News.{IsHeard, IsReceived, KnowSenders, Told, is_sender, may_reach}
-use Rattle.run_cells.specs.RunStates.{HasEnded, HasNotEnded, IsSeenTo, IsTold, Rests, Sleeps, Stand, State, Stays, Team, asleep, ended, idle, moment_at, past_in, seat_at, spent, up}
+use Rattle.run_cells.specs.RunStates.{IsSeenTo, IsTold, Rests, Sleeps, Stand, State, Stays, Team, asleep, ended, idle, moment_at, past_in, seat_at, spent, up}
 use Rattle.run_cells.specs.Turns.{IsAdoption, IsTurn, RoundFrom, Turned, adoption, fresh as first_stand, is_did, last as last_turn, next as next_session, play, position, there as stands_there, ended as turned_ended, idle as turned_idle, spent as turned_spent}
 use Rattle.run_cells.specs.Visits.{Skips, past_picks}
 use Rattle.run_cells.proofs.Foreign.{own_foreign}
-use Rattle.run_cells.proofs.Teams.{OwnCame, adoption_is, few_stands, is_of_worker, one_more, one_set, same_of, set_length, set_same, turn_came, unlike, with_adopted, workers-foreign}
+use Rattle.run_cells.proofs.Teams.{OwnCame, adoption_is, few_stands, is_of_worker, one_more, one_set, same_of, set_length, set_same, turn_came, unlike, workers-foreign}
 
 -- ---- lists
 

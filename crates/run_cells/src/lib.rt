@@ -7,7 +7,6 @@ mod look;
 mod news;
 mod parts;
 mod rounds;
-mod scratch;
 mod turns;
 mod worker;
 

@@ -1,5 +1,5 @@
 -- What brings a session nothing leaves absent what was absent for it.
-use Rattle.std.proofs.Common.{◌≡◌, ℕ, zero, suc, Bool, true, false, not, ◌&&◌, ◌||◌, List, [], ◌∷◌, ◌++◌, Option, None, Some, refl, sym, ap, subst, ◌∙◌}
+use Rattle.std.proofs.Common.{◌≡◌, ℕ, zero, suc, Bool, true, false, not, ◌&&◌, List, [], ◌∷◌, ◌++◌, Option, None, Some, refl, sym, ap, ◌∙◌}
 use Rattle.std.specs.Prelude.{cond, nat_eq, if◌then◌else◌, option_and_then, slice_get}
 use Rattle.std.specs.List.{list_any, filter, filter_map, cons_option}
 use Rattle.std.proofs.lemmas.Bool.{and_parts, eq-eqb, eqb-true, false≢true, or_left, or_right}
@@ -22,11 +22,11 @@ use Rattle.office_core.specs.declared.history.Placed.TheVariants as at
 use Rattle.office_core.specs.declared.message.Call.{Call}
 use Rattle.office_core.specs.declared.message.Message.{Message}
 use Rattle.office_core.specs.Limits.{Setting}
-use Rattle.office_core.specs.Past.{Past, some_entry, stops}
+use Rattle.office_core.specs.Past.{Past, stops}
 use Rattle.office_core.specs.Sessions.{ends, has_ended}
 use Rattle.office_core.specs.Boxes.{numbers_without, queue, taken, taken_in, was_taken}
 use Rattle.office_core.specs.Keys.{first}
-use Rattle.office_core.specs.Accepted.{accepted_in, past_of, then_one, with_message}
+use Rattle.office_core.specs.Accepted.{accepted_in, then_one, with_message}
 use Rattle.office_core.specs.Answers.{answers, answers_of, at_once, by_end, by_session, by_stop, is_request, replies, reply_in}
 use Rattle.office_core.specs.Calls.{brought_in, call, calls, is_call, outcome_by, result, sent_in}
 use Rattle.office_core.specs.Legal.{IsLegal}
@@ -35,7 +35,7 @@ use Rattle.office_core.proofs.OneAnswer.{front_nil, message_stays, rest_nil}
 use Rattle.office_core.proofs.Sent.{AreSent, IsSent, calls_are_messages}
 use Rattle.session_turn.specs.Seen.{Seat, past_at}
 use Rattle.session_turn.specs.Turns.{IsAbsent}
-use Rattle.run_quiet_laws.specs.Brings.{BringsNothing, is_sent_by, may_answer, sent_one}
+use Rattle.run_quiet_laws.specs.Brings.{BringsNothing, is_sent_by, may_answer}
 use Rattle.run_quiet_laws.proofs.Once.{same_of}
 
 -- ---- lists

@@ -1,35 +1,35 @@
 -- What brings a session nothing leaves one that could not act so.
-use Rattle.std.proofs.Common.{◌≡◌, ℕ, zero, suc, Bool, true, false, not, ◌&&◌, List, [], ◌∷◌, ◌++◌, length, Option, None, Some, refl, sym, ap, subst, ◌∙◌, append_assoc}
-use Rattle.std.specs.Prelude.{if◌then◌else◌, is_some, nat_eq, slice_get, take}
+use Rattle.std.proofs.Common.{◌≡◌, ℕ, zero, suc, Bool, true, false, not, List, [], ◌∷◌, ◌++◌, length, Option, None, Some, refl, sym, ap, ◌∙◌, append_assoc}
+use Rattle.std.specs.Prelude.{if◌then◌else◌, is_some, option_and_then, slice_get, take}
 use Rattle.std.specs.List.{cons_option, filter_map}
 use Rattle.std.proofs.lemmas.Bool.{and_from, and_parts, eq-eqb, false≢true, or_left}
 use Rattle.std.proofs.lemmas.List.{append-nil}
 use Rattle.std.proofs.lemmas.List.Elements.{filter_map-append}
 use Rattle.std.proofs.lemmas.Option.{none-some}
-use Rattle.behaviour_tree.specs.declared.words.Event.{Event}
 use Rattle.behaviour_tree.specs.declared.words.Need.{Need}
 use Rattle.behaviour_tree.specs.declared.words.Need.TheVariants as need
 use Rattle.behaviour_tree.specs.declared.words.Outcome.{Outcome}
+use Rattle.reqresp_book.specs.declared.origin.Origin.{Origin}
 use Rattle.office_core.specs.declared.history.Entry.{Entry}
+use Rattle.office_core.specs.declared.post.Posted.{Posted}
 use Rattle.office_core.specs.declared.message.Message.{Message}
 use Rattle.office_core.specs.Limits.{Setting}
 use Rattle.office_core.specs.Past.{Past}
 use Rattle.office_core.specs.Sessions.{births, ends, has_ended, is_live, service_of, singles_from, started_by}
 use Rattle.office_core.specs.Boxes.{queue}
 use Rattle.office_core.specs.Keys.{first}
-use Rattle.office_core.specs.Accepted.{accepted_in, handed_in, origin_of, past_of, then_one, with_message}
+use Rattle.office_core.specs.Accepted.{accepted_in, handed_in, message_of, origin_of, past_of, then_one, with_message}
 use Rattle.office_core.specs.Calls.{result}
-use Rattle.office_core.specs.Legal.{IsLegal}
 use Rattle.office_core.proofs.Longer.{past_more, some_more}
 use Rattle.office_core.proofs.Sent.{AreSent, calls_are_messages}
-use Rattle.office_plain.proofs.Unseen.{accepted_starts_next}
-use Rattle.run_record.specs.Quiet.{CanAct, is_given}
+use Rattle.office_plain.proofs.Unseen.{starts_next}
+use Rattle.run_record.specs.Quiet.{is_given}
 use Rattle.session_turn.proofs.Histories.{foreign-call}
 use Rattle.run_quiet_laws.specs.Brings.{BringsNothing}
 use Rattle.run_quiet_laws.specs.Laws.{OthersLeave}
 use Rattle.run_quiet_laws.proofs.Absent.{queue_on, result_on}
 use Rattle.run_quiet_laws.proofs.CallsOn.{calls_same}
-use Rattle.run_quiet_laws.proofs.Once.{agrees_with, same_of}
+use Rattle.run_quiet_laws.proofs.Once.{agrees_with}
 
 -- ---- births
 
@@ -49,8 +49,14 @@ births-one : (w : Setting) (ms : List Message) (m : Message)
     → births_by w (ms ++ m ∷ []) ≡ births_by w ms ++ filter_map started_by (m ∷ [])
 births-one w ms m =
     ap (λ l. take w.limits.sessions (singles_from 0 w.parts.services) ++ l) (filter_map-append started_by ms (m ∷ []))
-    ∙ append_assoc (take w.limits.sessions (singles_from 0 w.parts.services)) (filter_map started_by ms)
-    (filter_map started_by (m ∷ []))
+    ∙ sym (append_assoc (take w.limits.sessions (singles_from 0 w.parts.services)) (filter_map started_by ms)
+    (filter_map started_by (m ∷ [])))
+
+-- a message that starts a session starts the next one
+accepted-next : (w : Setting) (past : Past) (from : Origin) (g : Option Posted) (m : Message)
+    → option_and_then (message_of w past from) g ≡ Some m → m.starts ≡ true → m.session ≡ length (births w past)
+accepted-next w past from None m h starts = absurd (none-some m h)
+accepted-next w past from (Some q) m h starts = starts_next w past from q m h starts
 
 module _ (w : Setting) (past : Past) (s : ℕ) (e : Entry) (b : BringsNothing w past s e) where
   -- the session was born before
@@ -66,7 +72,7 @@ module _ (w : Setting) (past : Past) (s : ℕ) (e : Entry) (b : BringsNothing w 
           (sym (b.mail m is)
           ∙ eq-eqb s m.session
           (same
-          ∙ sym (accepted_starts_next w past (origin_of e.actor e.act) (handed_in w past e.actor e.act) m is q))))
+          ∙ sym (accepted-next w past (origin_of e.actor e.act) (handed_in w past e.actor e.act) m is q))))
           (ap (λ r. slice_get (births_by w past.messages ++ cons_option (if r then Some m.service else None) []) s) (sym q)
           ∙ g)
       starts m is false q g =

@@ -5,6 +5,5 @@
 #![tactic(auto)]
 
 mod laws;
-mod scratch;
 
 pub use laws::{quiet_runs_stay_quiet, runs_that_ended_are_runs};

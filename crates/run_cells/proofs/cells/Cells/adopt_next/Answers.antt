@@ -1,5 +1,5 @@
 -- The next session is adopted and seated, if it was born.
-use Rattle.std.proofs.Common.{◌∷◌, ◌++◌, [], ap, subst, sym, ◌∙◌}
+use Rattle.std.proofs.Common.{subst, sym, ◌∙◌}
 use Rattle.std.proofs.lemmas.Bool.{false≢true}
 use Rattle.office_plain.specs.Entries.{adopt_entry}
 use Rattle.office_plain.specs.View.{Adds}

@@ -1,6 +1,5 @@
 -- One that rests after all entries sleeps.
 use Rattle.std.proofs.Common.{refl}
-use Rattle.run_cells.specs.View.{told_in}
 use Rattle.run_cells.proofs.Offices.{cell_fits}
 use Rattle.run_cells.proofs.Skipping.{laid_work}
 use Rattle.run_cells.proofs.Teams.{few_stands}
