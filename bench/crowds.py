@@ -235,6 +235,27 @@ def honest_call(port=8000, wait=30):
     return time.monotonic() - begun if answer == ANSWER else None
 
 
+def beside_idle():
+    """How long calls of one kept connection take, beside connections that say nothing."""
+    for count in (0, 1000):
+        with serving(f"{FOLDER}/twice.ol"):
+            idle = [connect() for _ in range(count)]
+            peer = Peer()
+            took = []
+            for _ in range(2000):
+                begun = time.perf_counter()
+                peer.send(TWICE)
+                if peer.answer() != ANSWER:
+                    raise SystemExit("a call beside idle connections has another answer")
+                took.append(time.perf_counter() - begun)
+            peer.close()
+            for one in idle:
+                one.close()
+        took.sort()
+        middle, late = (1000 * took[len(took) * part // 100] for part in (50, 99))
+        print(f"2,000 calls beside {count:,} idle connections: {middle:.2f} ms in the middle, {late:.2f} ms for 99 of 100")
+
+
 def slow_peers():
     """What an honest client has of peers that send a byte a second."""
     for count, wait in [(0, 30), (1, 30), (3, 30), (1000, 15)]:
@@ -319,5 +340,6 @@ rates()
 memory()
 living_sessions()
 flood()
+beside_idle()
 slow_peers()
 full_house()

@@ -4,7 +4,7 @@
 # package json-rpc for Python (bench/baseline.py) where that is installed (Debian's python3-jsonrpc); and `check` on a
 # file of 2,000 types, operations and services. Then how the cost of a run grows, in instructions where valgrind is
 # there: with ten times the sessions, and with ten times the events of one session, each of which has to be at most 12
-# times as much. The times have no limits. It needs a program that `rt ci` has proved, outside the gate: bench/runs.sh
+# times as much; and of a call beside 3,900 sessions that wait, at most 1.3 times one beside 10. The times have no limits. It needs a program that `rt ci` has proved, outside the gate: bench/runs.sh
 # shellcheck source=bench/common.sh
 . "$(dirname "$0")/common.sh"
 find_program
@@ -115,4 +115,33 @@ for most in 497 4997; do
 done
 growth "10,000 events beside 1,000" \
     "$(instructions "$work/events.497.ol" "$work/one")" "$(instructions "$work/events.4997.ol" "$work/one")" || failed=1
+{
+    echo 'type Name: void { id: string }'
+    echo 'interface WaitI { RequestResponse: begin(Name)(string) OneWay: end(Name) }'
+    echo 'service Wait { execution: concurrent'
+    echo '  inputPort In { location: "local://wait" interfaces: WaitI }'
+    echo '  cset { id: Name.id }'
+    echo '  main { begin(x)(y) { y = x.id } ; end(z) ; w = 1 } }'
+} > "$work/waits.ol"
+
+# So many sessions that begin and wait, and then so many more that begin and end.
+waits() {
+    awk -v most="$1" -v more="$2" 'BEGIN {
+        for (n = 1; n <= most + more; n++) {
+            printf "{\"jsonrpc\":\"2.0\",\"method\":\"begin\",\"params\":{\"id\":\"s%d\"},\"id\":%d}\n", n, n
+            if (n > most) printf "{\"jsonrpc\":\"2.0\",\"method\":\"end\",\"params\":{\"id\":\"s%d\"}}\n", n
+        }
+    }'
+}
+
+# The instructions of 80 sessions that begin and end beside so many that wait.
+beside() {
+    waits "$1" 0 > "$work/waiting"
+    waits "$1" 80 > "$work/more"
+    echo "$(instructions "$work/waits.ol" "$work/waiting") $(instructions "$work/waits.ol" "$work/more")" | awk '{ print $2 - $1 }'
+}
+echo "$(beside 10) $(beside 3900)" | awk '{
+    printf "a call beside 3,900 sessions that wait: %.2f times one beside 10\n", $2 / $1
+    exit $2 > 1.3 * $1
+}' || failed=1
 exit "$failed"

@@ -18,9 +18,9 @@ use Rattle.run_record.specs.Steps.{is_call_of}
 use Rattle.run_record.specs.Quiet.{IsQuiet}
 use Rattle.session_turn.specs.declared.turn.Turn.{Turn}
 use Rattle.session_turn.specs.Turns.{AreEnabled, NoneAllowed, from_pick}
-use Rattle.run_cells.specs.RunStates.{Stand, State, Team, events_of, moment_at, past_in, seat_at}
+use Rattle.run_cells.specs.RunStates.{Rests, Stand, State, Team, ended, events_of, idle, moment_at, past_in, seat_at, spent}
 use Rattle.run_cells.specs.Turns.{Comes, IsAdoption, IsTurn, RoundFrom, Turned, TurnsOf, adoption, did, is_did, last, more, next, now, over, play, position, there, fresh as first_stand, ended as has_ended, idle as was_idle, spent as has_spent}
-use Rattle.run_cells.specs.Rounds.{IsQuietAt, IsResting, IsStillAt, OnlyAdoptions, Rests, Went, ended, events_left, idle, is_adoption, is_by_session, left, spent}
+use Rattle.run_cells.specs.Rounds.{IsQuietAt, IsResting, IsStillAt, OnlyAdoptions, Went, events_left, is_adoption, is_by_session, left}
 use Rattle.run_cells.proofs.Foreign.{AreOwn, left as both_left, right as both_right}
 use Rattle.run_cells.proofs.Stilling.{adoption_still, idle_turn_same, quiet_adopts_none, quiet_turn_idle, turn_still}
 use Rattle.run_cells.proofs.Teams.{OwnCame, few_stands, same_of, set_length, turn_came}
@@ -394,6 +394,15 @@ rests-at {n = n} {st = st} {seen = seen} p q (idle yet fewer strands pick enable
     idle yet (subst (λ b. length st.events < b) (sym q) fewer) strands pick
     (subst (λ (w : Setting). AreEnabled (seat_at w n) (moment_at st seen) strands) (sym p) enabled)
     (subst (λ (w : Setting). NoneAllowed (seat_at w n) (from_pick strands pick) (moment_at st seen) (moment_at st seen)) (sym p) none)
+
+-- after its turns a session rests
+pub rests_turns : {n : ℕ} {old new : State} {b : Bool} → TurnsOf n old new b → (st : Stand) → slice_get new.stands n ≡ Some st
+    → Rests new n st new.history
+rests_turns {n} (last old new t d x) st h =
+    let stood : Stood n old new = stood_turns (last old new t d x) refl in
+    subst (λ (k : List Entry). Rests new n st k) (sym stood.history)
+    (rests-at x.setting x.budget (stood.rests st (ap (λ (sts : List Stand). slice_get sts n) (sym stood.stands) ∙ h)))
+rests_turns (more old mid new t b d x tm rest) st h = rests_turns rest st h
 
 pub none_short : {A : Type 0} (xs : List A) (n : ℕ) → slice_get xs n ≡ None → length xs ≤ n
 none_short [] n h = omega arith

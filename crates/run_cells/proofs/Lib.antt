@@ -1,12 +1,15 @@
-pub mod Unended
 pub mod Births
 pub mod Ends
 pub mod Foreign
 pub mod Going
+pub mod Hearing
 pub mod Looping
 pub mod Offices
 pub mod Resting
+pub mod Rising
 pub mod Seeing
+pub mod Skipping
+pub mod Sleeping
 pub mod Stilling
 pub mod Teams
 pub mod Turning

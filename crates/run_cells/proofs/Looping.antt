@@ -12,9 +12,10 @@ use Rattle.office_core.specs.Sessions.{births}
 use Rattle.session_turn.specs.declared.turn.Turn.{Turn}
 use Rattle.run_cells.specs.RunStates.{AtWork, RunState, Stand, State, Team, events_of, past_in, state_of}
 use Rattle.run_cells.specs.Turns.{Adoptions, Adopts, CameTo, Comes, IsAdoption, IsNoBirth, IsTurn, RoundFrom, TurnsOf, and_next, fresh as first_stand, here, is_did, last, more, next, nobody, nobody_yet, none, now, one, over, there}
+use Rattle.run_cells.specs.Awake.{PutsOn}
 use Rattle.run_cells.specs.Visits.{Skips}
 use Rattle.run_cells.specs.Rounds.{Adopted, CouldAct, HasSpent, IsStillAt, OnlyAdoptions, Went}
-use Rattle.run_cells.proofs.Unended.{skipped_round}
+use Rattle.run_cells.proofs.Sleeping.{skipped_round}
 use Rattle.run_cells.proofs.Going.{only_none, only_on, none_short, went_round}
 use Rattle.run_cells.proofs.Stilling.{adoption_still}
 
@@ -66,7 +67,7 @@ rounding_next {n} {start} {at} {mid} {new} moved {a} either e f c x = λ fin b r
     plus : (k : ℕ) → k + 1 ≡ suc k
     plus k = omega arith
 
--- behind those that have ended
+-- behind those that sleep
 pub rounding_skips : {n m : ℕ} {start at mid : State} (moved : Bool) → Rounding n start at moved → Skips n m at mid
     → Rounding m start mid moved
 rounding_skips moved f x = λ new b rest. f new b (skipped_round x rest)
@@ -289,10 +290,15 @@ seat_more {X} f items items' x st longer is =
 pub count_is : {X : Type 0} (f : X → Stand) (items : List X) (count : ℕ) → count ≡ length items → count ≡ length (map f items)
 count_is f items count e = e ∙ sym (length-map items f)
 
+-- where a call went well, what holds whatever it gave
+pub on_ok : {X E P : Type 0} (r : Result X E) → P → OnOk r P
+on_ok (Ok x) p = p
+on_ok (Err e) p = tt
+
 -- the number of the next session is its place
-pub seated_unended : {X : Type 0} (f : X → Stand) (items : List X) (unended unended' : List ℕ) {n : ℕ}
-    → unended' ≡ unended ++ n ∷ [] → n ≡ length items → unended' ≡ unended ++ length (map f items) ∷ []
-seated_unended f items unended unended' e is = e ∙ ap (λ (k : ℕ). unended ++ k ∷ []) (is ∙ sym (length-map items f))
+pub seated_awake : {X : Type 0} (f : X → Stand) (items : List X) {old new : List ℕ} {n : ℕ} → PutsOn n old new
+    → n ≡ length items → PutsOn (length (map f items)) old new
+seated_awake f items {old} {new} x is = subst (λ (k : ℕ). PutsOn k old new) (is ∙ sym (length-map items f)) x
 
 pub cells_same : {X : Type 0} (f : X → Stand) (xs ys : List X) → length (map f ys) ≡ length (map f xs) → length ys ≡ length xs
 cells_same f xs ys e = sym (length-map ys f) ∙ e ∙ length-map xs f

@@ -26,11 +26,13 @@ use Rattle.office_plain.specs.Replies.{birth_of}
 use Rattle.session_turn.specs.Passes.{IsReady}
 use Rattle.office_plain.specs.declared.office.Office.{Office}
 use Rattle.office_plain.specs.View.{Adds, entries_of, with_entry}
-use Rattle.run_cells.specs.RunStates.{AtWork, RunState, IsOurs, Stand, Stays, Team, closing, run_state_by, list_of, past_in, state_of}
-use Rattle.run_cells.specs.RunStates.{with_unended}
+use Rattle.run_cells.specs.Awake.{IsOn, PutsOn}
+use Rattle.run_cells.specs.News.{Told}
+use Rattle.run_cells.specs.RunStates.{AtWork, RunState, IsOurs, IsTold, State, Stand, Stays, Team, closing, run_state_by, list_of, past_in, state_of}
+use Rattle.run_cells.specs.RunStates.{with_told}
 use Rattle.run_cells.specs.Turns.{Adopts, IsAdoption, IsTurn, Turned, adoption, fresh as first_stand, none, position}
 use Rattle.session_turn.specs.declared.turn.Turn.{Turn}
-use Rattle.run_cells.proofs.Unended.{unended_begun, unended_more, unended_same, unended_turn}
+use Rattle.run_cells.proofs.Sleeping.{told_adopted, told_begun, told_stays, told_turned}
 use Rattle.run_cells.proofs.Births.{born_known}
 use Rattle.run_cells.proofs.Foreign.{some_with}
 use Rattle.run_cells.proofs.Stilling.{next_unadopted}
@@ -60,7 +62,8 @@ pub record Beside (old new : RunState) : Type 0 where
   pub budget : new.budget ≡ old.budget
   pub stands : new.stands ≡ old.stands
   pub picks : new.picks ≡ old.picks
-  pub unended : new.unended ≡ old.unended
+  pub told : new.told ≡ old.told
+  pub heard : new.heard ≡ old.heard
 
 with_list : (h : List Entry) (more : Option Entry) → with_entry h more ≡ h ++ list_of more
 with_list h None = sym (append_nil h)
@@ -110,6 +113,12 @@ ready_by {parts} {parts'} {old} {new} more r same program entries goes ready = r
 pub runs_of : {parts : ProgramParts} {o : Office} → IsReady parts o → is_running (past_of (run_of parts) (entries_of o)) ≡ true
 runs_of {parts} {o} r = along (λ w p. is_running p ≡ true) (entries_of o) r.program r.running
 
+-- what was told, at the same things
+told_as : {s : State} {told told' : Told} {heard heard' : ℕ} → told' ≡ told → heard' ≡ heard → IsTold s told heard
+    → IsTold s told' heard'
+told_as {s} {told} {told'} {heard} {heard'} p q t =
+    subst (λ (x : Told). IsTold s x heard') (sym p) (subst (IsTold s told) (sym q) t)
+
 -- ---- entries of the worker
 
 abbrev pub ByWorker : List Entry → Type 0
@@ -126,7 +135,7 @@ works_by {old} {new} {more} work b a ready works goes =
     record {
       desk = r;
       team = team_stays work.team s works (legal_of new.office r.program) (runs_of r);
-      unended = unended_same b.unended b.stands work.unended;
+      told = told_as b.told b.heard (told_stays work.team s works work.told);
     }
 
 -- what each call of the worker adds is its own
@@ -210,7 +219,9 @@ pub record Seated (old new : RunState) (birth : Birth) : Type 0 where
   pub budget : new.budget ≡ old.budget
   pub picks : new.picks ≡ old.picks
   pub stands : new.stands ≡ old.stands ++ first_stand (run_of (parts_of old.program)) birth.service ∷ []
-  pub unended : new.unended ≡ old.unended ++ length old.stands ∷ []
+  pub awake : PutsOn (length old.stands) old.told.awake new.told.awake
+  pub senders : new.told.senders ≡ old.told.senders
+  pub heard : new.heard ≡ old.heard
 
 pub adopts_one : {old new : RunState} {birth : Birth} → AtWork old → Seated old new birth → (n : ℕ) → n ≡ length old.stands
     → Adds (Some (entry n (act.Adopt birth.service))) old.office new.office
@@ -238,28 +249,28 @@ works_one {old} {new} {birth} n work s a ready x =
     record {
       desk = r;
       team = team_adopted work.team x (legal_of new.office r.program) (runs_of r);
-      unended = unended_same s.unended s.stands
-          (unended_more (first_stand (run_of (parts_of old.program)) birth.service) work.unended);
+      told = told_as refl s.heard (told_adopted new.told x s.awake s.senders work.told);
     }
 
 -- ---- turns
 
 pub works_turn : {old new : RunState} {n : ℕ} {t : Turn} → AtWork old → IsReady (parts_of new.program) new.office
-    → new.unended ≡ old.unended → IsTurn n (state_of old) (state_of new) t → AtWork new
-works_turn {old} {new} work r same x = record {
+    → new.told ≡ old.told → new.heard ≡ old.heard → IsOn old.told.awake n → IsTurn n (state_of old) (state_of new) t
+    → AtWork new
+works_turn {old} {new} work r same heard on x = record {
   desk = r;
   team = team_turn work.team x (legal_of new.office r.program) (runs_of r);
-  unended = unended_same same refl (unended_turn x work.unended);
+  told = told_as same heard (told_turned x on work.told);
 }
 
 -- ---- what a call of the office gave
 
 -- the run state with another office
 abbrev pub with_office : RunState → Office → RunState
-with_office c o = with_unended c.unended (run_state_by c.program o c.budget c.stands c.picks)
+with_office c o = with_told c.told c.heard (run_state_by c.program o c.budget c.stands c.picks)
 
 unchanged : (c : RunState) (o : Office) → Beside c (with_office c o)
-unchanged c o = record { program = refl; budget = refl; stands = refl; picks = refl; unended = refl }
+unchanged c o = record { program = refl; budget = refl; stands = refl; picks = refl; told = refl; heard = refl }
 
 pub stays_ok : (c : RunState) (o : Office) {X E : Type 0} (r : Result X E) (f : X → Option Entry)
     → IfOk r (λ x. Adds (f x) c.office o)
@@ -390,17 +401,18 @@ count_fits f items count e few =
     omega arith
 
 pub works_turn_ok : {old : RunState} (new : RunState) (n : ℕ) {E : Type 0} (r : Result Turn E) → AtWork old
-    → OnOk r (IsReady (parts_of new.program) new.office) → new.unended ≡ old.unended
-    → IfOk r (IsTurn n (state_of old) (state_of new)) → OnOk r (AtWork new)
-works_turn_ok new n (Ok t) work ready same x = works_turn work ready same x
-works_turn_ok new n (Err e) work ready same x = tt
+    → OnOk r (IsReady (parts_of new.program) new.office) → new.told ≡ old.told → new.heard ≡ old.heard
+    → IsOn old.told.awake n → IfOk r (IsTurn n (state_of old) (state_of new)) → OnOk r (AtWork new)
+works_turn_ok new n (Ok t) work ready same heard on x = works_turn work ready same heard on x
+works_turn_ok new n (Err e) work ready same heard on x = tt
 
 -- ---- before the first call
 
 pub works_begun : {X : Type 0} (f : X → Stand) (program : Program) (o : Office) (budget : ℕ) (items : List X)
-    (picks unended : List ℕ) → parts_of o.program ≡ parts_of program → entries_of o ≡ [] → o.spent ≡ false → items ≡ [] → unended ≡ []
-    → AtWork (with_unended unended (run_state_by program o budget (map f items) picks))
-works_begun f program o budget items picks unended same none_yet ready nobody_yet nobody_unended = record {
+    (picks : List ℕ) (told : Told) (heard : ℕ) → parts_of o.program ≡ parts_of program → entries_of o ≡ [] → o.spent ≡ false → items ≡ []
+    → told.awake ≡ [] → heard ≡ 0
+    → AtWork (with_told told heard (run_state_by program o budget (map f items) picks))
+works_begun f program o budget items picks told heard same none_yet ready nobody_yet nobody_awake none_heard = record {
   desk = record {
     program = same;
     ready = ready;
@@ -413,7 +425,7 @@ works_begun f program o budget items picks unended same none_yet ready nobody_ye
     stands = map f (sym nobody_yet i);
     picks = picks;
   }) (team_begun (run_of (parts_of program)) budget picks refl);
-  unended = unended_begun nobody_unended (ap (map f) nobody_yet);
+  told = told_as refl none_heard (told_begun (state_of (run_state_by program o budget (map f items) picks)) told (ap (map f) nobody_yet) nobody_awake);
 }
 
 -- ---- the next session
@@ -479,6 +491,12 @@ look_works {c} o (Ok x) work ready e = record {
     stands = c.stands;
     picks = c.picks;
   }) work.team;
-  unended = work.unended;
+  told = subst (λ (s : State). IsTold s c.told c.heard) (λ i. record {
+    setting = run_of (parts_of c.program);
+    budget = c.budget;
+    history = sym e i;
+    stands = c.stands;
+    picks = c.picks;
+  }) work.told;
 }
 look_works {c} o (Err x) work ready e = tt

@@ -13,8 +13,8 @@ use Rattle.run_quiet_laws.proofs.Acting.{ended_cannot_act}
 use Rattle.run_quiet_laws.proofs.Once.{same_of}
 use Rattle.run_quiet_laws.proofs.Quiet.{IsIdle, quiet_at_end}
 use Rattle.run_quiet_laws.proofs.Since.{given_before, idle_since}
-use Rattle.run_cells.specs.RunStates.{Stand, State, Team, events_of, moment_at, past_in}
-use Rattle.run_cells.specs.Rounds.{IsAtRest, IsResting, OnlyAdoptions, Rests, ended, idle, spent}
+use Rattle.run_cells.specs.RunStates.{Rests, Stand, State, Team, ended, events_of, idle, moment_at, past_in, spent}
+use Rattle.run_cells.specs.Rounds.{IsAtRest, IsResting, OnlyAdoptions}
 
 -- Session n stands so, and these are its events.
 pub record StandsAt (stands : List Stand) (n : ℕ) (es : List Event) : Type 0 where

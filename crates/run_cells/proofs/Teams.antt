@@ -100,7 +100,7 @@ lt-more n k = by (nat_lt n k) (nat_eq n k) (nat_lt n (suc k)) refl refl refl
     by false false true e f g = absurd (grind (arith, nat_tests))
     by false false false e f g = refl
 
-unlike : (n k : ℕ) → n < k → nat_eq n k ≡ false
+pub unlike : (n k : ℕ) → n < k → nat_eq n k ≡ false
 unlike n k h = by (nat_eq n k) refl
   where
     by : (b : Bool) → nat_eq n k ≡ b → b ≡ false
@@ -440,7 +440,7 @@ workers-adopt n (e ∷ es) h =
     ap (λ b. b || list_any (adopts n) es) (worker-adopts n e (left (is_of_worker e) (list_all is_of_worker es) h))
     ∙ workers-adopt n es (right (is_of_worker e) (list_all is_of_worker es) h)
 
-workers-foreign : (n : ℕ) (es : List Entry) → n < first_worker → list_all is_of_worker es ≡ true → AreForeign n es
+pub workers-foreign : (n : ℕ) (es : List Entry) → n < first_worker → list_all is_of_worker es ≡ true → AreForeign n es
 workers-foreign n [] l h = tt
 workers-foreign n (e ∷ es) l h = (
   by (nat_eq n e.actor) refl (worker-actor e (left (is_of_worker e) (list_all is_of_worker es) h)),

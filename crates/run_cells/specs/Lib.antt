@@ -1,3 +1,5 @@
+pub mod Awake
+pub mod News
 pub mod RunStates
 pub mod View
 pub mod Turns

@@ -7,9 +7,8 @@ use Rattle.office_core.specs.declared.history.Entry.{Entry}
 use Rattle.office_core.specs.Limits.{first_worker}
 use Rattle.office_core.specs.Sessions.{births}
 use Rattle.run_record.specs.Quiet.{CanAct, IsQuiet, IsStill}
-use Rattle.session_turn.specs.Turns.{AreEnabled, NoneAllowed, from_pick}
-use Rattle.run_cells.specs.RunStates.{HasEnded, Stand, State, events_of, moment_at, past_in, seat_at}
-use Rattle.run_cells.specs.Turns.{Adoptions, HasNotEnded, RoundFrom}
+use Rattle.run_cells.specs.RunStates.{Rests, Stand, State, events_of, past_in}
+use Rattle.run_cells.specs.Turns.{Adoptions, RoundFrom}
 
 -- an entry of a session
 abbrev pub is_by_session : Entry → Bool
@@ -33,15 +32,6 @@ pub record OnlyAdoptions (old new : List Entry) : Type 0 where
   pub adoptions : List Entry
   pub is : new ≡ old ++ adoptions
   pub only : list_all is_adoption adoptions ≡ true
-
--- why a session does nothing: it has ended; or else it used its whole budget; or else none of its events is allowed
-pub data Rests (s : State) (n : ℕ) (st : Stand) (seen : List Entry) : Type 0 where
-  ended : HasEnded st → Rests s n st seen
-  spent : HasNotEnded st → s.budget ≤ length st.events → Rests s n st seen
-  idle : HasNotEnded st → length st.events < s.budget
-      → (strands : List ℕ) (pick : ℕ) → AreEnabled (seat_at s.setting n) (moment_at st seen) strands
-      → NoneAllowed (seat_at s.setting n) (from_pick strands pick) (moment_at st seen) (moment_at st seen)
-      → Rests s n st seen
 
 -- A session rests since it was looked at: after that there are adoptions alone.
 pub record IsResting (s : State) (n : ℕ) (st : Stand) : Type 0 where

@@ -1,6 +1,6 @@
 -- The sessions of a run on one thread: where each stands, the state of a run, and what holds of it between two calls.
-use Rattle.std.specs.Prelude.{◌≡◌, ℕ, ◌≤◌, ◌<◌, true, List, [], ◌∷◌, ◌++◌, length, map, nat_lt, Option, None, Some}
-use Rattle.std.specs.Prelude.{if◌then◌else◌, slice_get}
+use Rattle.std.specs.Prelude.{◌≡◌, ℕ, ◌≤◌, ◌<◌, true, false, List, [], ◌∷◌, ◌++◌, length, map, nat_lt, Option, None, Some}
+use Rattle.std.specs.Prelude.{drop, if◌then◌else◌, slice_get, take}
 use Rattle.behaviour_tree.specs.declared.program.Program.{Program}
 use Rattle.behaviour_tree.specs.declared.words.Event.{Event}
 use Rattle.behaviour_tree.specs.PartsView.{parts_of}
@@ -15,8 +15,11 @@ use Rattle.office_core.specs.Legal.{IsLegal}
 use Rattle.session_turn.specs.Passes.{IsReady}
 use Rattle.office_plain.specs.declared.office.Office.{Office}
 use Rattle.office_plain.specs.View.{entries_of}
-use Rattle.session_turn.specs.Seen.{Seat}
+use Rattle.session_turn.specs.Seen.{AreForeign, Seat}
 use Rattle.session_turn.specs.Lives.{Kept, Moment, moment}
+use Rattle.session_turn.specs.Turns.{AreEnabled, NoneAllowed, from_pick}
+use Rattle.run_cells.specs.Awake.{IsOn}
+use Rattle.run_cells.specs.News.{KnowSenders, Told, told_nothing}
 
 -- where a session stands: its service, its configuration, none once memory ran out in it, and its events
 pub record Stand : Type 0 where
@@ -64,6 +67,27 @@ pub record Team (s : State) : Type 0 where
       → Kept (seat_at s.setting n) st.events (moment_at st s.history)
   pub within : (n : ℕ) (st : Stand) → slice_get s.stands n ≡ Some st → length st.events ≤ s.budget
 
+-- A session that stands so has ended.
+pub record HasEnded (st : Stand) : Type 0 where
+  pub config : Config
+  pub at : st.config ≡ Some config
+  pub ended : config.ended ≡ true
+
+-- A session that stands so has not ended.
+pub record HasNotEnded (st : Stand) : Type 0 where
+  pub config : Config
+  pub at : st.config ≡ Some config
+  pub going : config.ended ≡ false
+
+-- why a session does nothing: it has ended; or else it used its whole budget; or else none of its events is allowed
+pub data Rests (s : State) (n : ℕ) (st : Stand) (seen : List Entry) : Type 0 where
+  ended : HasEnded st → Rests s n st seen
+  spent : HasNotEnded st → s.budget ≤ length st.events → Rests s n st seen
+  idle : HasNotEnded st → length st.events < s.budget
+      → (strands : List ℕ) (pick : ℕ) → AreEnabled (seat_at s.setting n) (moment_at st seen) strands
+      → NoneAllowed (seat_at s.setting n) (from_pick strands pick) (moment_at st seen) (moment_at st seen)
+      → Rests s n st seen
+
 -- Entries came, and nothing else changed.
 pub record Stays (old new : State) (more : List Entry) : Type 0 where
   pub setting : new.setting ≡ old.setting
@@ -74,17 +98,18 @@ pub record Stays (old new : State) (more : List Entry) : Type 0 where
 
 -- ---- a run state, of which the contracts of `Cells` and of what stands on it speak, and no promise of the program
 
--- the sessions of a run by number, as far as they were adopted, with their office, the picks that are left, and the
--- numbers of the sessions that a round visits
+-- the sessions of a run by number, as far as they were adopted, with their office, the picks that are left, what was
+-- told of who is awake, and how many entries were looked at for that
 pub record RunState : Type 0 where
   pub program : Program
   pub office : Office
   pub budget : ℕ
   pub stands : List Stand
   pub picks : List ℕ
-  pub unended : List ℕ
+  pub told : Told
+  pub heard : ℕ
 
--- a run state by its parts, of which no session is visited
+-- a run state by its parts, of which nobody was told anything
 abbrev pub run_state_by : Program → Office → ℕ → List Stand → List ℕ → RunState
 run_state_by program office budget stands picks = record {
   program = program;
@@ -92,18 +117,20 @@ run_state_by program office budget stands picks = record {
   budget = budget;
   stands = stands;
   picks = picks;
-  unended = [];
+  told = told_nothing;
+  heard = 0;
 }
 
--- a run state of which the sessions with these numbers are visited
-abbrev pub with_unended : List ℕ → RunState → RunState
-with_unended unended c = record {
+-- a run state in which this was told, by so many entries
+abbrev pub with_told : Told → ℕ → RunState → RunState
+with_told told heard c = record {
   program = c.program;
   office = c.office;
   budget = c.budget;
   stands = c.stands;
   picks = c.picks;
-  unended = unended;
+  told = told;
+  heard = heard;
 }
 
 -- the state of the run of a run state
@@ -120,28 +147,33 @@ state_of c = record {
 abbrev pub IsOurs : RunState → Type 0
 IsOurs c = parts_of c.office.program ≡ parts_of c.program
 
--- A session that stands so has ended.
-pub record HasEnded (st : Stand) : Type 0 where
-  pub config : Config
-  pub at : st.config ≡ Some config
-  pub ended : config.ended ≡ true
+-- A session sleeps: it did nothing after so many entries, and made no call since.
+pub record Sleeps (s : State) (heard n : ℕ) (st : Stand) : Type 0 where
+  pub rests : Rests s n st (take heard s.history)
+  pub others : AreForeign n (drop heard s.history)
 
--- a session is visited, or it has ended
-pub data IsSeenTo (unended : List ℕ) (n : ℕ) (st : Stand) : Type 0 where
-  visited : (place : ℕ) → slice_get unended place ≡ Some n → IsSeenTo unended n st
-  asleep : HasEnded st → IsSeenTo unended n st
+-- a session is awake, or it sleeps
+pub data IsSeenTo (s : State) (told : Told) (heard n : ℕ) (st : Stand) : Type 0 where
+  up : IsOn told.awake n → IsSeenTo s told heard n st
+  asleep : Sleeps s heard n st → IsSeenTo s told heard n st
 
--- The numbers of those that are visited rise, each is of a session at hand, and all others have ended.
-pub record AreUnended (unended : List ℕ) (stands : List Stand) : Type 0 where
-  pub rising : (i j m n : ℕ) → i < j → slice_get unended i ≡ Some m → slice_get unended j ≡ Some n → m < n
-  pub there : (place n : ℕ) → slice_get unended place ≡ Some n → n < length stands
-  pub each : (n : ℕ) (st : Stand) → slice_get stands n ≡ Some st → IsSeenTo unended n st
+-- What was told is so after so many entries: those that are awake are at hand, all others sleep, and who sent messages
+-- to whom is noted.
+pub record IsTold (s : State) (told : Told) (heard : ℕ) : Type 0 where
+  pub within : heard ≤ length s.history
+  pub there : (n : ℕ) → IsOn told.awake n → n < length s.stands
+  pub each : (n : ℕ) (st : Stand) → slice_get s.stands n ≡ Some st → IsSeenTo s told heard n st
+  pub senders : KnowSenders (past_of s.setting (take heard s.history)) told.senders
 
--- The office is at work at the program of the run, its sessions are a team, and those that are not visited have ended.
+-- The office is at work at the program of the run, its sessions are a team, and those that are not awake sleep.
 pub record AtWork (c : RunState) : Type 0 where
   pub desk : IsReady (parts_of c.program) c.office
   pub team : Team (state_of c)
-  pub unended : AreUnended c.unended c.stands
+  pub told : IsTold (state_of c) c.told c.heard
+
+-- all entries were looked at
+abbrev pub HasHeardAll : RunState → Type 0
+HasHeardAll c = c.heard ≡ length (entries_of c.office)
 
 -- an entry that may be there as a list
 abbrev pub list_of : Option Entry → List Entry

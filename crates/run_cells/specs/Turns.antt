@@ -12,7 +12,7 @@ use Rattle.session_turn.specs.Seen.{Seat}
 use Rattle.session_turn.specs.Turns.{AreEnabled, FirstDone, NoneAllowed, from_pick}
 use Rattle.session_turn.specs.declared.turn.Turn.{Turn}
 use Rattle.session_turn.specs.declared.turn.Turn.TheVariants as turn
-use Rattle.run_cells.specs.RunStates.{Stand, State, Team, moment_at, past_in, seat_at}
+use Rattle.run_cells.specs.RunStates.{HasNotEnded, Stand, State, Team, moment_at, past_in, seat_at}
 
 -- ---- adoptions
 
@@ -74,12 +74,6 @@ pub record Position : Type 0 where
 -- a position by its parts
 abbrev pub position : Stand → List Entry → Position
 position st h = record { stand = st; history = h }
-
--- A session that stands so has not ended.
-pub record HasNotEnded (st : Stand) : Type 0 where
-  pub config : Config
-  pub at : st.config ≡ Some config
-  pub going : config.ended ≡ false
 
 -- what a turn came to: the first event that is allowed from the pick on was done; or the session has not ended and not
 -- used its budget, and none is allowed; or it has ended; or it has not, and has used its budget. Where no event was

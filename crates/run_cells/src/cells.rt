@@ -3,8 +3,10 @@ ghost use Rattle.behaviour_tree.specs.PartsView.{parts_of};
 ghost use Rattle.office_core.specs.Limits.{run_of};
 ghost use Rattle.run_cells.specs.RunStates.{AtWork};
 ghost use Rattle.run_cells.specs.View.{run_state, state};
+ghost use Rattle.run_cells.specs.Awake.{IsOn, PutsOn};
 ghost use Rattle.run_cells.specs.Turns.{Adopts, fresh};
 
+use crate::news::News;
 use behaviour_tree::{Events, Program};
 use office_core::Birth;
 use office_plain::Office;
@@ -20,8 +22,8 @@ pub struct Cell<S: Session> {
 }
 
 /// The sessions of a run by number, as far as they were adopted, and their office. A session has at most as many events
-/// as the budget, and each turn takes the next pick, or 0 after the last. Rounds visit the sessions that are unended,
-/// in rising order: all others have ended.
+/// as the budget, and each turn takes the next pick, or 0 after the last. Rounds visit the sessions that are awake, in
+/// rising order: all others sleep.
 #[derive(Drop)]
 pub struct Cells<'p, S: Session> {
     pub(crate) alloc: Global,
@@ -29,7 +31,7 @@ pub struct Cells<'p, S: Session> {
     pub(crate) office: Office,
     pub(crate) budget: u32,
     pub(crate) cells: Vec<Cell<S>>,
-    pub(crate) unended: Vec<u32>,
+    pub(crate) news: News,
     pub(crate) picks: &'p [u32],
 }
 
@@ -55,14 +57,14 @@ impl<'p, S: Seating> Cells<'p, S> {
         let copy = program.again()?;
         let office = Office::new(alloc, copy)?;
         let cells = Vec::new(alloc);
-        let unended = Vec::new(alloc);
+        let news = News::new(alloc);
         Ok(Cells {
             alloc,
             program,
             office,
             budget,
             cells,
-            unended,
+            news,
             picks,
         })
     }
@@ -79,9 +81,8 @@ impl<'p, S: Seating> Cells<'p, S> {
         requires work { AtWork (run_state S.Session self.old) }
         ensures program { self.new.program ≡ self.old.program }
         ensures adopts { IfOk result (Adopts (state S.Session self.old) (state S.Session self.new)) }
-        ensures unended { IfOk result
-            (λ adopted. adopted ≡ true → self.new.unended.items ≡ self.old.unended.items
-            ++ length self.old.cells.items ∷ []) }
+        ensures awake { IfOk result
+            (λ adopted. adopted ≡ true → IsOn self.new.news.awake (length self.old.cells.items)) }
         ensures work { OnOk result (AtWork (run_state S.Session self.new)) }
     {
         let count = self.cells.len();
@@ -94,7 +95,7 @@ impl<'p, S: Seating> Cells<'p, S> {
         Ok(true)
     }
 
-    /// Seats the session that was adopted last, at the start of its service. It is unended.
+    /// Seats the session that was adopted last, at the start of its service. It is awake.
     fn seat(&mut self, number: u32, birth: Birth) -> Result<(), AllocError>
         requires known { birth.service < length (parts_of self.old.program).services }
         ensures program { self.new.program ≡ self.old.program }
@@ -103,13 +104,14 @@ impl<'p, S: Seating> Cells<'p, S> {
         ensures picks { self.new.picks.now ≡ self.old.picks.now }
         ensures stands { OnOk result ((run_state S.Session self.new).stands ≡ (run_state S.Session self.old).stands
             ++ fresh (run_of (parts_of self.old.program)) birth.service ∷ []) }
-        ensures unended { OnOk result (self.new.unended.items ≡ self.old.unended.items ++ number ∷ []) }
+        ensures awake { OnOk result (PutsOn number self.old.news.awake self.new.news.awake) }
+        ensures heard { self.new.news.heard ≡ self.old.news.heard }
+        ensures senders { self.new.news.senders.items ≡ self.old.news.senders.items }
     {
         let session = S::start(self.alloc, &self.program, birth.service)?;
         let events = Items::new(self.alloc);
         let cell = Cell { session, events };
         self.cells.push(cell)?;
-        self.unended.push(number)?;
-        Ok(())
+        self.news.awake.wake(number)
     }
 }

@@ -1,8 +1,10 @@
 //! The sessions of a run on one thread and their office: adoption, turns, and the calls of the one worker.
 #![tactic(auto)]
 
+mod awake;
 mod cells;
 mod look;
+mod news;
 mod parts;
 mod rounds;
 mod turns;

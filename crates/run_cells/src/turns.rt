@@ -5,6 +5,7 @@ ghost use Rattle.office_core.specs.Limits.{run_of};
 ghost use Rattle.session_turn.specs.Passes.{IsReady};
 ghost use Rattle.office_plain.specs.View.{entries_of};
 ghost use Rattle.session_turn.specs.Lives.{Kept, moment};
+ghost use Rattle.run_cells.specs.Awake.{IsOn};
 ghost use Rattle.run_cells.specs.RunStates.{AtWork, seat_at, stand_by};
 ghost use Rattle.run_cells.specs.View.{run_state, state};
 ghost use Rattle.run_cells.specs.Turns.{IsTurn, Turned, TurnsOf, is_did as did, position};
@@ -19,8 +20,9 @@ impl<S: Seating> Cells<'_, S> {
     pub(crate) fn turns_of(&mut self, number: usize) -> Result<bool, AllocError>
         requires work { AtWork (run_state S.Session self.old) }
         requires there { number < length self.old.cells.items }
+        requires awake { IsOn self.old.news.awake number }
         ensures program { self.new.program ≡ self.old.program }
-        ensures unended { self.new.unended.items ≡ self.old.unended.items }
+        ensures news { self.new.news ≡ self.old.news }
         ensures turns { IfOk result (TurnsOf number (state S.Session self.old) (state S.Session self.new)) }
         ensures work { OnOk result (AtWork (run_state S.Session self.new)) }
     {
@@ -39,8 +41,9 @@ impl<S: Seating> Cells<'_, S> {
     fn turn(&mut self, number: usize) -> Result<Turn, AllocError>
         requires work { AtWork (run_state S.Session self.old) }
         requires there { number < length self.old.cells.items }
+        requires awake { IsOn self.old.news.awake number }
         ensures program { self.new.program ≡ self.old.program }
-        ensures unended { self.new.unended.items ≡ self.old.unended.items }
+        ensures news { self.new.news ≡ self.old.news }
         ensures turn { IfOk result (IsTurn number (state S.Session self.old) (state S.Session self.new)) }
         ensures work { OnOk result (AtWork (run_state S.Session self.new)) }
     {

@@ -106,7 +106,7 @@ pub unpolled-step : (numbers : List ℕ) (i d : ℕ) (x y z : Lined) → i < len
     → IsPolledAt (get_or numbers i d) y z → AreUnpolled (take (i + 1) numbers) x.connections z.connections
 unpolled-step numbers i d x y z inside u at = subst (λ ns. AreUnpolled ns x.connections z.connections) (sym (take_more numbers i d inside)) (λ k e.
     let both = neither (list_any (nat_eq k) (take i numbers)) (nat_eq k (get_or numbers i d))
-        (sym (list_any-append (nat_eq k) (take i numbers) (get_or numbers i d ∷ [])) ∙ e) in
+    (sym (list_any-append (nat_eq k) (take i numbers) (get_or numbers i d ∷ [])) ∙ e) in
     ap (λ ls. slice_get ls k) at.set ∙ get_set_other y.connections (get_or numbers i d) k at.later (unlike k (get_or numbers i d) both.1) ∙ u k both.0)
 
 pub moved-step : (numbers queue : List ℕ) (i d : ℕ) (x y z : Lined) (moved one : Bool) → IsOrdered x.connections numbers queue → i < length numbers

@@ -1,3 +1,4 @@
+pub mod Absent
 pub mod Acting
 pub mod Aside
 pub mod Begun
@@ -6,6 +7,7 @@ pub mod Cutting
 pub mod Ending
 pub mod Fewer
 pub mod Finished
+pub mod Leaving
 pub mod Once
 pub mod Quiet
 pub mod Sessions

@@ -16,6 +16,7 @@ use Rattle.session_turn.specs.Seen.{Seat}
 use Rattle.session_turn.specs.Lives.{Kept, Moment}
 use Rattle.session_turn.specs.Looks.{MayAct}
 use Rattle.session_turn.specs.Turns.{Happened}
+use Rattle.run_quiet_laws.specs.Brings.{BringsNothing}
 use Rattle.run_quiet_laws.specs.Ends.{CameThrough, Ended, IsChanged, is_adoption}
 
 -- At a desk that nobody else calls a look at a kept session says whether it can act.
@@ -30,6 +31,12 @@ abbrev pub AdoptionsLeave : Type 0
 AdoptionsLeave =
     (w : Setting) (h more : List Entry) (s : ℕ) (es : List Event)
     → list_all is_adoption more ≡ true → (CanAct w h s es → ⊥) → CanAct w (h ++ more) s es → ⊥
+
+-- After an entry of another that brings a session nothing, one that could not act can not.
+abbrev pub OthersLeave : Type 0
+OthersLeave =
+    (w : Setting) (h : List Entry) (e : Entry) (s : ℕ) (es : List Event)
+    → IsLegal w h → BringsNothing w (past_of w h) s e → (CanAct w h s es → ⊥) → CanAct w (h ++ e ∷ []) s es → ⊥
 
 -- Where nothing is left to do, no event happens to a session that has budget left.
 abbrev pub NothingHappens : Type 0

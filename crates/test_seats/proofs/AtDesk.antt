@@ -1,5 +1,5 @@
 -- An office is opened, its session is seated, and a turn is one of the run.
-use Rattle.std.proofs.Common.{◌≡◌, ℕ, Bool, true, false, List, [], ◌∷◌, ◌++◌, refl, ap, subst, ◌∙◌, Option, None, Some, true≢false}
+use Rattle.std.proofs.Common.{◌≡◌, ℕ, Bool, true, false, List, [], ◌∷◌, ◌++◌, refl, ap, subst, ◌∙◌, Option, None, Some, true≢false, zero-le}
 use Rattle.std.specs.Prelude.{Err, IfOk, Ok, OnOk, Result, length}
 use Rattle.behaviour_tree.specs.declared.program.Program.{Program}
 use Rattle.behaviour_tree.specs.declared.words.Event.{Event}
@@ -18,9 +18,13 @@ use Rattle.office_plain.specs.Replies.{birth_of}
 use Rattle.office_plain.specs.declared.office.Office.{Office}
 use Rattle.office_plain.specs.View.{Adds, entries_of, past_in as past_at, setting_of}
 use Rattle.reqresp_book.specs.declared.origin.Origin.TheVariants as origin
+use Rattle.run_cells.specs.Awake.{IsOn}
+use Rattle.run_cells.specs.News.{told_nothing}
 use Rattle.run_cells.specs.RunStates.{AtWork, Stand, State, past_in, state_of}
 use Rattle.run_cells.specs.Turns.{Adopts, IsAdoption, IsTurn, Turned, fresh, none, one, play, position}
 use Rattle.run_cells.proofs.Offices.{Seated as Adopted, nobody_born, post_goes, post_own, somebody_born, somebody_works, works_begun, works_ok}
+use Rattle.run_cells.proofs.Rising.{inserted}
+use Rattle.run_cells.proofs.Sleeping.{told_begun, told_picks}
 use Rattle.test_seats.specs.Opening.{IsOpened, run_state_before, first_entries, state_before}
 use Rattle.test_seats.specs.Seats.{IsSeated, run_state_in, stand_in, state_in, state_with}
 use Rattle.test_seats.specs.declared.seat.Seat.{Seat}
@@ -34,7 +38,7 @@ pub opened_ok : {E : Type 0} (r : Result Office E) (program copy : Program) → 
     → IfOk r (λ o. parts_of o.program ≡ parts_of copy) → IfOk r (λ o. entries_of o ≡ []) → IfOk r (λ o. o.spent ≡ false)
     → IfOk r (IsOpened program)
 opened_ok (Ok o) program copy same ours none_yet ready =
-    works_begun {X = Stand} (λ x. x) program o 0 [] [] [] (ours ∙ same) none_yet ready refl refl
+    works_begun {X = Stand} (λ x. x) program o 0 [] [] told_nothing 0 (ours ∙ same) none_yet ready refl refl refl
 opened_ok (Err e) program copy same ours none_yet ready = tt
 
 -- a message came in
@@ -74,7 +78,7 @@ budgeted budget w = record {
     each = w.team.each;
     within = λ n st h. absurd (not_some st h);
   };
-  unended = w.unended;
+  told = told_begun _ told_nothing refl refl;
 }
 
 -- ---- the session is seated
@@ -94,6 +98,10 @@ nobody program old new budget first opened entries added is =
     (unborn_of (state_of (run_state_before program old 0)) (state_of (run_state_before program new 0)) false
     (nobody_born {c = run_state_before program old 0} new 0 opened added refl is) refl)
 
+-- the session is awake
+pub first_awake : IsOn (0 ∷ []) 0
+first_awake = (inserted [] 0 0 zero-le).here
+
 -- The session was born, adopted and seated.
 pub record IsBegun (run : Program) (old : Office) (birth : Birth) (s : Seat) : Type 0 where
   pub adopter : Office
@@ -111,7 +119,9 @@ adopted_by program old birth s b = record {
   budget = refl;
   picks = refl;
   stands = ap (λ (st : Stand). st ∷ []) b.stand;
-  unended = refl;
+  awake = inserted [] 0 0 zero-le;
+  senders = refl;
+  heard = refl;
 }
 
 adoption_of : (program : Program) (old : Office) (birth : Birth) (s : Seat) → IsOpened program old
@@ -153,7 +163,7 @@ picked s picks w = record {
     each = w.team.each;
     within = w.team.within;
   };
-  unended = w.unended;
+  told = told_picks picks w.told;
 }
 
 -- what a turn came to is a turn of the run

@@ -1,6 +1,6 @@
 -- A session at its desk: the run of which it is the one session, and what holds of it between two calls.
 use Rattle.std.specs.Prelude.{ℕ, List, [], ◌∷◌}
-use Rattle.run_cells.specs.RunStates.{AtWork, RunState, Stand, State, run_state_by, stand_by, state_of, with_unended}
+use Rattle.run_cells.specs.RunStates.{AtWork, RunState, Stand, State, run_state_by, stand_by, state_of, with_told}
 use Rattle.test_seats.specs.declared.seat.Seat.{Seat}
 use Rattle.term_session.specs.Sessions.{config_of, service_of}
 
@@ -10,7 +10,9 @@ stand_in s = stand_by (service_of s.session.session) (config_of s.session.sessio
 
 -- the run with these picks left
 abbrev pub run_state_in : Seat → List ℕ → RunState
-run_state_in s picks = with_unended (0 ∷ []) (run_state_by s.program.now s.office s.budget (stand_in s ∷ []) picks)
+run_state_in s picks =
+    with_told (record { awake = 0 ∷ []; senders = [] }) 0
+    (run_state_by s.program.now s.office s.budget (stand_in s ∷ []) picks)
 
 -- the state of the run between two calls
 abbrev pub state_in : Seat → State

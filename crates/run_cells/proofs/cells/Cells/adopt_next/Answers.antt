@@ -1,11 +1,12 @@
 -- The next session is adopted and seated, if it was born.
-use Rattle.std.proofs.Common.{◌∷◌, ◌++◌, [], ap, subst, sym, ◌∙◌}
+use Rattle.std.proofs.Common.{subst, sym, ◌∙◌}
 use Rattle.std.proofs.lemmas.Bool.{false≢true}
 use Rattle.office_plain.specs.Entries.{adopt_entry}
 use Rattle.office_plain.specs.View.{Adds}
+use Rattle.run_cells.specs.Awake.{IsOn}
 use Rattle.run_cells.specs.View.{run_state}
 use Rattle.run_cells.specs.Turns.{one}
-use Rattle.run_cells.proofs.Looping.{count_is, seated_unended}
+use Rattle.run_cells.proofs.Looping.{count_is, seated_awake}
 use Rattle.run_cells.proofs.Offices.{count_fits, nobody_born, nobody_works, seat_known, somebody_born, somebody_works}
 use Rattle.run_cells.proofs.Teams.{few_stands}
 use Rattle.run_cells.proofs.cells.Cells.adopt_next.Goals as goal
@@ -28,8 +29,8 @@ returns-in_default-clause-work g c =
     (subst (λ b. Adds (adopt_entry count b) c.args.self.now.office c.adopt.new.self) c.in_default.is c.in_ok-born.ensures.added)
     c.in_ok-born.ensures.ready
 
-pub returns-in_default-clause-unended : goal.returns-in_default-clause-unended
-returns-in_default-clause-unended g c = λ e. absurd (false≢true e)
+pub returns-in_default-clause-awake : goal.returns-in_default-clause-awake
+returns-in_default-clause-awake g c = λ e. absurd (false≢true e)
 
 pub seat-requires : goal.seat-requires
 seat-requires g c = record {
@@ -42,15 +43,14 @@ returns-clause-adopts g c =
     one (somebody_born
     (run_state g.S.Session c.seat.new.self)
     c.in-Some.birth count c.adopt.new.self c.requires.work
-    (record { program = c.seat.ensures.program; budget = c.seat.ensures.budget; picks = c.seat.ensures.picks; stands = c.in_ok-seat.ensures.stands; unended = seated_unended _ _ _ _ c.in_ok-seat.ensures.unended (c.len-count.ensures ∙ c.args.self.now.cells.ok.0) })
+    (record { program = c.seat.ensures.program; budget = c.seat.ensures.budget; picks = c.seat.ensures.picks; stands = c.in_ok-seat.ensures.stands; awake = seated_awake _ _ c.in_ok-seat.ensures.awake (c.len-count.ensures ∙ c.args.self.now.cells.ok.0); senders = c.seat.ensures.senders; heard = c.seat.ensures.heard })
     (count_is _ c.args.self.now.cells.items count (c.len-count.ensures ∙ c.args.self.now.cells.ok.0)) c.seat.ensures.office
     (subst (λ b. Adds (adopt_entry count b) c.args.self.now.office c.adopt.new.self) c.in-Some.is c.in_ok-born.ensures.added)
     (sym c.in-Some.is ∙ c.in_ok-born.ensures.birth))
 
-pub returns-clause-unended : goal.returns-clause-unended
-returns-clause-unended g c =
-    λ e. c.in_ok-seat.ensures.unended
-    ∙ ap (λ k. c.args.self.now.unended.items ++ k ∷ []) (c.len-count.ensures ∙ c.args.self.now.cells.ok.0)
+pub returns-clause-awake : goal.returns-clause-awake
+returns-clause-awake g c =
+    λ e. subst (IsOn c.seat.new.self.news.awake) (c.len-count.ensures ∙ c.args.self.now.cells.ok.0) c.in_ok-seat.ensures.awake.here
 
 pub returns-clause-work : goal.returns-clause-work
 returns-clause-work g c =
@@ -59,11 +59,11 @@ returns-clause-work g c =
     somebody_works
     (run_state g.S.Session c.seat.new.self)
     c.in-Some.birth count c.adopt.new.self c.requires.work
-    (record { program = c.seat.ensures.program; budget = c.seat.ensures.budget; picks = c.seat.ensures.picks; stands = c.in_ok-seat.ensures.stands; unended = seated_unended _ _ _ _ c.in_ok-seat.ensures.unended (c.len-count.ensures ∙ c.args.self.now.cells.ok.0) })
+    (record { program = c.seat.ensures.program; budget = c.seat.ensures.budget; picks = c.seat.ensures.picks; stands = c.in_ok-seat.ensures.stands; awake = seated_awake _ _ c.in_ok-seat.ensures.awake (c.len-count.ensures ∙ c.args.self.now.cells.ok.0); senders = c.seat.ensures.senders; heard = c.seat.ensures.heard })
     c.seat.ensures.office added c.in_ok-born.ensures.ready
     (somebody_born
     (run_state g.S.Session c.seat.new.self)
     c.in-Some.birth count c.adopt.new.self c.requires.work
-    (record { program = c.seat.ensures.program; budget = c.seat.ensures.budget; picks = c.seat.ensures.picks; stands = c.in_ok-seat.ensures.stands; unended = seated_unended _ _ _ _ c.in_ok-seat.ensures.unended (c.len-count.ensures ∙ c.args.self.now.cells.ok.0) })
+    (record { program = c.seat.ensures.program; budget = c.seat.ensures.budget; picks = c.seat.ensures.picks; stands = c.in_ok-seat.ensures.stands; awake = seated_awake _ _ c.in_ok-seat.ensures.awake (c.len-count.ensures ∙ c.args.self.now.cells.ok.0); senders = c.seat.ensures.senders; heard = c.seat.ensures.heard })
     (count_is _ c.args.self.now.cells.items count (c.len-count.ensures ∙ c.args.self.now.cells.ok.0)) c.seat.ensures.office added
     (sym c.in-Some.is ∙ c.in_ok-born.ensures.birth))

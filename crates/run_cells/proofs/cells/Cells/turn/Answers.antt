@@ -26,5 +26,5 @@ returns-clause-turn g c =
 
 pub returns-clause-work : goal.returns-clause-work
 returns-clause-work g c =
-    works_turn_ok _ c.args.number c.turn_at.result c.requires.work c.turn_at.ensures.ready refl
+    works_turn_ok _ c.args.number c.turn_at.result c.requires.work c.turn_at.ensures.ready refl refl c.requires.awake
     (returns-clause-turn g c)

@@ -1,5 +1,7 @@
 -- Each turn that did something leaves less to do.
-use Rattle.std.proofs.Common.{refl, sym, ◌∙◌}
+use Rattle.std.proofs.Common.{refl, sym, subst, ◌∙◌}
+use Rattle.run_cells.specs.Awake.{IsOn}
+use Rattle.run_cells.specs.declared.news.News.{News}
 use Rattle.run_cells.proofs.Going.{less_did, stands_turn}
 use Rattle.run_cells.proofs.Looping.{cells_there, turning_last, turning_more, turning_start}
 use Rattle.run_cells.proofs.cells.Cells.turns_of.Goals as goal
@@ -9,7 +11,8 @@ turns-init g c = record {
   work = c.requires.work;
   there = c.requires.there;
   program = refl;
-  unended = refl;
+  news = refl;
+  awake = c.requires.awake;
   turns = turning_start _ _;
 }
 
@@ -21,7 +24,8 @@ turns-preserved g c =
       work = e.work;
       there = cells_there _ _ _ _ (stands_turn e.turn) i.there;
       program = e.program ∙ i.program;
-      unended = e.unended ∙ i.unended;
+      news = e.news ∙ i.news;
+      awake = subst (λ (n : News). IsOn n.awake c.args.number) (sym e.news) i.awake;
       turns = turning_more _ i.turns (sym c.is_did-did.ensures ∙ c.if-not-did.false) e.turn e.work.team;
     }
 

@@ -1,5 +1,6 @@
 -- The session had some turns, each of which did something.
 use Rattle.std.proofs.Common.{◌≡◌, ◌<◌, length}
+use Rattle.run_cells.specs.Awake.{IsOn}
 use Rattle.run_cells.specs.RunStates.{AtWork}
 use Rattle.run_cells.specs.View.{run_state, state}
 use Rattle.run_cells.specs.Rounds.{left}
@@ -11,7 +12,8 @@ invariant-turns g l = record {
   work : AtWork (run_state g.S.Session l.self);
   there : l.number < length l.self.cells.items;
   program : l.self.program ≡ l.fn.self.program;
-  unended : l.self.unended.items ≡ l.fn.self.unended.items;
+  news : l.self.news ≡ l.fn.self.news;
+  awake : IsOn l.self.news.awake l.number;
   turns : Turning l.number (state g.S.Session l.fn.self)
       (state g.S.Session l.self) l.moved;
 }

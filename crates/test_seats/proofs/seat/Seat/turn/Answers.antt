@@ -5,7 +5,7 @@ use Rattle.run_cells.proofs.Offices.{works_turn_ok}
 use Rattle.run_cells.proofs.Turning.{turned_by}
 use Rattle.run_cells.specs.Turns.{play, position}
 use Rattle.test_seats.specs.Seats.{run_state_in, stand_in, state_with}
-use Rattle.test_seats.proofs.AtDesk.{later, picked, taken}
+use Rattle.test_seats.proofs.AtDesk.{first_awake, later, picked, taken}
 use Rattle.test_seats.proofs.seat.Seat.turn.Goals as goal
 
 pub turn_of-requires-clause-pass : goal.turn_of-requires-clause-pass
@@ -30,4 +30,4 @@ returns-clause-seated c =
     let s = c.args.self.now in
     let n = c.turn_of.new in
     works_turn_ok (run_state_in (later s n.pass n.session n.events) []) 0 c.turn_of.result (picked s (c.args.pick ∷ []) c.requires)
-    c.turn_of.ensures.pass refl (returns-clause-turn c)
+    c.turn_of.ensures.pass refl refl first_awake (returns-clause-turn c)
