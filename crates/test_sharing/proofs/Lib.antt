@@ -1,3 +1,4 @@
 mod Acting
 mod Making
+mod Sending
 mod Serving
