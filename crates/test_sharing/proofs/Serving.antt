@@ -51,6 +51,7 @@ more_of None = []
 more_of (Some e) = e ∷ []
 
 with_more : (es : List Entry) (o : Option Entry) → with_entry es o ≡ es ++ more_of o
+unfolding more_of
 with_more es None = sym (append-nil es)
 with_more es (Some e) = refl
 

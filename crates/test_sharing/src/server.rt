@@ -9,7 +9,8 @@ ghost use Rattle.office_sharing.specs.Views.{newcomer};
 ghost use Rattle.session_shared_turns.specs.Stays.{MayAsk};
 ghost use Rattle.session_turn.specs.Asking as asks;
 ghost use Rattle.test_sharing.specs.Callers.{IsCaller};
-ghost use Rattle.test_sharing.specs.Servers.{IsServer, MayAnswer};
+ghost use Rattle.test_sharing.specs.Servers.{IsServer, IsServer-prop, MayAnswer};
+ghost use Rattle.test_sharing.specs.declared.server.TheConstants.{FIRST};
 
 use behaviour_tree::{Outcome, Program};
 use jolie_trees::Tree;
@@ -31,7 +32,7 @@ pub struct Server<N: Naming> {
     service: u32,
     next: u32,
     of: PhantomData<N>,
-    ghost serves: { IsServer (parts_by N.program) service next pass },
+    ghost serves: { IsServer (parts_by N.program) service next pass } by { IsServer-prop (parts_by N.program) service next pass },
     ghost answers: { asks.has_response (run_of (parts_by N.program)) service FIRST ≡ true },
 }
 

@@ -21,5 +21,5 @@ join-taken-requires-send-F g c κs ls =
           ),
         ),
       );
-      leaving = λ k x w. (tt, (tt, (tt, ((tt, (tt, tt)), tt))));
+      leaving = λ k x w. (tt, (tt, (tt, ((tt, tt), tt))));
     })
