@@ -27,6 +27,17 @@ const MEMBERS: u32 = 4;
 /// The actors from this number on are workers.
 const FIRST_WORKER: u32 = 4_096;
 
+/// Who calls the office.
+#[derive(Clone, Copy)]
+enum Callers {
+    /// A worker and a session, in one thread.
+    OneThread,
+    /// A worker and a session, each in a thread of its own.
+    TwoThreads,
+    /// Four workers and four sessions, in four threads.
+    Crowd,
+}
+
 /// What the office of a program gives that is shared so.
 pub fn told<R: Threads + Wait + Sync>(
     rt: &R,
@@ -34,11 +45,22 @@ pub fn told<R: Threads + Wait + Sync>(
     program: &Program,
     what: &str,
 ) -> anyhow::Result<String> {
+    let callers = callers_of(what);
     let copy = program.again()?;
     let office = Office::new(alloc, copy)?;
     match Opened::new(alloc, office) {
-        Ok(opened) => Ok(told_of::<Brand, _>(rt, alloc, program, opened, what)?),
+        Ok(opened) => Ok(told_of::<Brand, _>(rt, alloc, program, opened, callers)?),
         Err(failed) => Err(failed)?,
+    }
+}
+
+fn callers_of(what: &str) -> Callers {
+    if what == "one thread" {
+        Callers::OneThread
+    } else if what == "two threads" {
+        Callers::TwoThreads
+    } else {
+        Callers::Crowd
     }
 }
 
@@ -47,7 +69,7 @@ fn told_of<N: Naming + Send + Sync, R: Threads + Wait + Sync>(
     alloc: Global,
     program: &Program,
     opened: Opened,
-    what: &str,
+    callers: Callers,
 ) -> Result<String, AllocError>
     requires table { opened.table.shared.table_id ≡ N.table }
     requires program { IsProgramOf N.program opened.table.shared.key.value }
@@ -55,10 +77,9 @@ fn told_of<N: Naming + Send + Sync, R: Threads + Wait + Sync>(
 {
     let (office, pass) = opened.named::<N>();
     let maker = Maker::new(pass);
-    if what == "crowd" {
-        crowd(rt, alloc, program, office, maker)
-    } else {
-        copy(rt, alloc, &office, what, maker)
+    match callers {
+        Callers::Crowd => crowd(rt, alloc, program, office, maker),
+        _ => copy(rt, alloc, &office, callers, maker),
     }
 }
 
@@ -76,7 +97,7 @@ fn copy<N: Naming + Send + Sync, R: Threads + Wait + Sync>(
     rt: &R,
     alloc: Global,
     office: &SharedOffice<N>,
-    what: &str,
+    callers: Callers,
     mut maker: Maker<N>,
 ) -> Result<String, AllocError> {
     let session = maker.caller(office);
@@ -85,10 +106,9 @@ fn copy<N: Naming + Send + Sync, R: Threads + Wait + Sync>(
         return String::from_str(alloc, "no callers");
     };
     drop(maker);
-    if what == "one thread" {
-        in_one_thread(rt, alloc, office, worker, session)
-    } else {
-        in_two_threads(rt, alloc, office, worker, session)
+    match callers {
+        Callers::TwoThreads => in_two_threads(rt, alloc, office, worker, session),
+        _ => in_one_thread(rt, alloc, office, worker, session),
     }
 }
 
