@@ -2,7 +2,7 @@
 use Rattle.std.proofs.Common.{◌≡◌, ℕ, ◌+◌, ◌≤◌, ◌<◌, Bool, true, false, not, ◌&&◌, ◌||◌, List, [], ◌∷◌, ◌++◌, length, Option, None, Some, if◌then◌else◌, nat_eq, option_map, slice_get, Result, Ok, Err, refl, sym, ap, subst, ◌∙◌, append_assoc, arith}
 use Rattle.std.specs.Prelude.{IfOk, IfSome, OnErr}
 use Rattle.std.specs.List.{list_any}
-use Rattle.std.proofs.lemmas.Bool.{and_from, false≢true}
+use Rattle.std.proofs.lemmas.Bool.{and_from}
 use Rattle.std.proofs.lemmas.List.{append-nil}
 use Rattle.std.proofs.lemmas.Option.{none-some, same_Some}
 use mathlib.Core.List.{IsPrefix}
@@ -24,7 +24,6 @@ use Rattle.office_plain.specs.Replies.{birth_of, next_mail}
 use Rattle.office_plain.specs.View.{with_entry}
 use Rattle.office_plain.proofs.Lists.{eq_true, itself}
 use Rattle.office_sharing.specs.declared.view.View.{View}
-use Rattle.office_sharing.specs.Numbers.{entries_by}
 use Rattle.office_sharing.specs.Views.{newcomer}
 use Rattle.office_turn.specs.Calls.{Called, Made, Saw, past_at}
 use Rattle.session_turn.specs.Asking.{answers_message, has_response, is_at_work, is_request_to, is_to_answer}
