@@ -13,14 +13,14 @@ use Rattle.office_core.specs.declared.history.Entry.{Entry}
 use Rattle.office_core.specs.declared.message.Call.{Call}
 use Rattle.office_core.specs.declared.message.Message.{Message}
 use Rattle.office_core.specs.Limits.{Setting}
-use Rattle.office_core.specs.Past.{Past, some_entry}
+use Rattle.office_core.specs.Past.{some_entry}
 use Rattle.office_core.specs.Sessions.{adopts, ends, service_of}
 use Rattle.office_core.specs.Boxes.{takes}
 use Rattle.office_core.specs.Keys.{first}
 use Rattle.office_core.specs.Accepted.{past_of}
 use Rattle.office_core.specs.Bound.{sets_with}
 use Rattle.office_core.specs.Calls.{calls, is_call, sent_in}
-use Rattle.office_core.specs.Legal.{has_variable, takes_answer}
+use Rattle.office_core.specs.Legal.{takes_answer}
 use Rattle.session_turn.specs.Asking.{answers_message, has_response, is_at_work, is_request_to, may_call, meets}
 use Rattle.session_turn.specs.Seen.{AreForeign, Seat, past_at}
 use Rattle.session_turn.proofs.Histories.{any_last, entries_of, foreign-call, message_stays, own-answers_message, own-ends, own-takes, own-takes_answer, service_stays, some_of}

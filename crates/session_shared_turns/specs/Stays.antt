@@ -1,5 +1,5 @@
 -- What a session may ask by what its pass has seen stays so, whatever others do.
-use Rattle.std.specs.Prelude.{◌≡◌, ℕ, Bool, true, false, List, ◌++◌, nat_eq}
+use Rattle.std.specs.Prelude.{◌≡◌, ℕ, Bool, true, List, ◌++◌, nat_eq}
 use Rattle.jolie_trees.specs.Data.{Tree}
 use Rattle.jolie_trees.specs.declared.root.Root.{Root}
 use Rattle.behaviour_tree.specs.Data.{ProgramParts}
@@ -7,7 +7,6 @@ use Rattle.behaviour_tree.specs.declared.words.Need.{Need}
 use Rattle.behaviour_tree.specs.declared.words.Need.TheVariants as need
 use Rattle.behaviour_tree.specs.declared.words.Outcome.{Outcome}
 use Rattle.office_core.specs.declared.history.Entry.{Entry}
-use Rattle.office_core.specs.Limits.{run_of}
 use Rattle.office_core.specs.Answers.{is_open}
 use Rattle.office_core.specs.Boxes.{took}
 use Rattle.office_core.specs.Calls.{next_call}
