@@ -1,5 +1,12 @@
-ghost use Rattle.run_quiet_laws.specs.Laws.{AdoptionsLeave, BirthsKeepWithin, EndsAsRun, LooksSay};
-ghost use Rattle.run_quiet_laws.specs.Laws.{NothingHappens, OthersLeave, StaysStill};
+ghost use Rattle.run_quiet_laws.specs.Laws.{
+  AdoptionsLeave,
+  BirthsKeepWithin,
+  EndsAsRun,
+  LooksSay,
+  NothingHappens,
+  OthersLeave,
+  StaysStill,
+};
 
 /// Does nothing: its clauses say what looks, adoptions and events leave of a run in which nothing is left to do.
 pub fn quiet_runs_stay_quiet()
