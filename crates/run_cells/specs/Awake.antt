@@ -1,4 +1,3 @@
--- These definitions serve the proofs alone: no promise speaks of them.
 -- Numbers of sessions on a list that rises.
 use Rattle.std.specs.Prelude.{◌≡◌, ◌⊎◌, ℕ, ◌≤◌, ◌<◌, List, length, get_or}
 

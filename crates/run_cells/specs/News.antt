@@ -1,4 +1,3 @@
--- These definitions serve the proofs alone: no promise speaks of them.
 -- What a look at an entry of the history makes of who is awake, and of who sent messages to whom.
 use Rattle.std.specs.Prelude.{◌≡◌, ◌⊎◌, ℕ, ◌<◌, Bool, true, false, List, [], nat_eq, None, Some, slice_get, unwrap_or}
 use Rattle.std.specs.List.{list_any}
