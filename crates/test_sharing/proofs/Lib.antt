@@ -1,0 +1,4 @@
+mod Acting
+mod Making
+mod Sending
+mod Serving
