@@ -3,28 +3,12 @@
 # of 60,000 messages to 6,000; and of a message to one of 4,096 live sessions, each with a key of its own, to a message
 # to one of 4. Each message is posted, finds its session by its key, and is taken there. Then a history of 65,536
 # messages whose values weigh 64 MiB, all that a run takes, with the memory that it needs, which is to be at most
-# 352 MiB: a value is held twice, and a tree of 1 KiB takes some 2.3. Then, by the clock, what a call through a pass
-# costs more than the plain call, which is to be at most 100 ns alone, and how many calls a second four threads make. It
-# proves crates of its own over the libraries that `rt ci` proved here, or in the repository that PROVED names, and needs
-# valgrind and python3. Outside the gate:
-#   bench/office.sh         all of it
-#   bench/office.sh passes  the calls through passes alone
+# 352 MiB: a value is held twice, and a tree of 1 KiB takes some 2.3. It proves a crate of its own over the libraries
+# that `rt ci` proved here, or in the repository that PROVED names, and needs valgrind and python3. Outside the gate:
+# bench/office.sh
 # shellcheck source=bench/common.sh
 . "$(dirname "$0")/common.sh"
 
-cat > "$work/keys.ol" <<'EOF'
-type Key: void { k: string fill: string }
-interface GoI { OneWay: open(Key), more(Key) }
-service S {
-  execution: concurrent
-  inputPort In { location: "local://s" interfaces: GoI }
-  cset { k: Key.k }
-  main { open(x) ; while (true) { more(x) } }
-}
-EOF
-failed=0
-
-if [ "${1:-}" != passes ]; then
 make_crate "office_costs: test_programs test_conditions office_plain office_core reqresp_book behaviour_tree \
 jolie_trees anyhow" <<'EOF'
 //! An office in which so many sessions are started, each with a key of its own, takes so many messages, each of which
@@ -180,6 +164,16 @@ fn put(alloc: Global, value: &mut Tree, name: &str, text: String) -> Result<(), 
 }
 EOF
 
+cat > "$work/keys.ol" <<'EOF'
+type Key: void { k: string fill: string }
+interface GoI { OneWay: open(Key), more(Key) }
+service S {
+  execution: concurrent
+  inputPort In { location: "local://s" interfaces: GoI }
+  cset { k: Key.k }
+  main { open(x) ; while (true) { more(x) } }
+}
+EOF
 build_over_proved
 program=$work/crates/office_costs/out/office_costs
 
@@ -196,6 +190,7 @@ few=$(($(instructions 1 6000) - start))
 many=$(($(instructions 1 60000) - start))
 small=$(($(instructions 4 4000) - $(instructions 4 0)))
 large=$(($(instructions 4096 4000) - $(instructions 4096 0)))
+failed=0
 echo "$few $many" | awk '{
     printf "6,000 messages: %d instructions, 60,000: %d, ratio %.2f (at most 13)\n", $1, $2, $2 / $1
     exit !($2 <= 13 * $1)
@@ -215,206 +210,5 @@ taken = int(subprocess.run(sys.argv[1:], capture_output=True, check=True).stdout
 mib = resource.getrusage(resource.RUSAGE_CHILDREN).ru_maxrss // 1024
 print(f'{taken:,} messages of 1,024 bytes (65,536): {mib} MiB of memory (at most 352)')
 sys.exit(taken != 65536 or mib > 352)
-EOF
-fi
-
-make_crate "pass_costs: office_turn office_sharing test_programs test_conditions office_plain office_core \
-behaviour_tree anyhow" <<'EOF'
-//! So many calls of an office that fetch nothing, plain, through a pass, or through four passes in four threads; and how
-//! many were made. The words are the file of the service, `plain`, `pass` or `four`, and how many calls a caller makes.
-#![tactic(auto)]
-
-ghost use Rattle.std.specs.Prelude.{◌≡◌, true};
-ghost use Rattle.office_sharing.specs.Named.{IsProgramOf};
-
-use behaviour_tree::Program;
-use office_core::OutKind;
-use office_plain::Office;
-use office_sharing::Naming;
-use office_turn::{Opened, Pass, SharedOffice};
-use std::alloc::{AllocError, Global};
-use std::marker::{Brand, PhantomData};
-use std::sync::Wait;
-use std::thread::{Threads, for_each_mut};
-use std::{env, fs};
-use test_conditions::works;
-use test_programs::with_program;
-
-const WORKER: u32 = 4_096;
-
-/// A caller, and how many calls it made.
-#[derive(Drop)]
-struct Caller<N: Naming> {
-    pass: Pass<N>,
-    made: u32,
-    of: PhantomData<N>,
-    ghost calls: { pass.may_call ≡ true },
-}
-
-/// The pass that makes the others, with the number of the next one.
-#[derive(Drop)]
-struct Maker<N: Naming> {
-    pass: Pass<N>,
-    next: u32,
-    of: PhantomData<N>,
-    ghost makes: { pass.makes ≡ true },
-    ghost given: { pass.given ≡ next },
-}
-
-fn main(rt: HostRuntime) -> anyhow::Result<()> {
-    let alloc = rt.alloc();
-    let mut words = env::args(&rt)?.skip(1);
-    let (Some(path), Some(how), Some(calls)) = (words.next(), words.next(), words.next()) else {
-        return Ok(());
-    };
-    let calls = calls.as_str().parse::<u32>().unwrap_or(0);
-    let text = fs::read_to_string(&rt, path.as_str())?;
-    let done = with_program(alloc, text.as_bytes(), |program| {
-        told(&rt, alloc, program, how.as_str(), calls)
-    })?;
-    println!(rt; "{done}")?;
-    Ok(())
-}
-
-fn told<R: Threads + Wait + Sync>(
-    rt: &R,
-    alloc: Global,
-    program: &Program,
-    how: &str,
-    calls: u32,
-) -> anyhow::Result<u32> {
-    let copy = program.again()?;
-    let mut office = Office::new(alloc, copy)?;
-    if how == "plain" {
-        let done = plain(&mut office, calls)?;
-        drop(office);
-        return Ok(done);
-    }
-    let callers = if how == "four" { 4 } else { 1 };
-    match Opened::new(alloc, office) {
-        Ok(opened) => Ok(shared::<Brand, _>(rt, alloc, opened, callers, calls)?),
-        Err(failed) => Err(failed)?,
-    }
-}
-
-fn plain(office: &mut Office, calls: u32) -> Result<u32, AllocError> {
-    let mut done: u32 = 0;
-    for _ in 0..calls {
-        if works(office, WORKER) && office.fetch(WORKER, OutKind::Console)?.is_none() {
-            done = done.wrapping_add(1);
-        }
-    }
-    Ok(done)
-}
-
-fn shared<N: Naming + Send + Sync, R: Threads + Wait + Sync>(
-    rt: &R,
-    alloc: Global,
-    opened: Opened,
-    count: u32,
-    calls: u32,
-) -> Result<u32, AllocError>
-    requires table { opened.table.shared.table_id ≡ N.table }
-    requires program { IsProgramOf N.program opened.table.shared.key.value }
-{
-    let (office, pass) = opened.named::<N>();
-    let mut maker = Maker {
-        pass,
-        next: 1,
-        of: PhantomData,
-    };
-    let mut callers = callers_of(alloc, &office, &mut maker, count)?;
-    for_each_mut(rt, callers.as_mut_slice(), 4, &|_, caller| call_all(rt, &office, caller, calls));
-    let mut done: u32 = 0;
-    for caller in &callers {
-        done = done.wrapping_add(caller.made);
-    }
-    Ok(done)
-}
-
-/// So many callers of the numbers of workers.
-fn callers_of<N: Naming>(
-    alloc: Global,
-    office: &SharedOffice<N>,
-    maker: &mut Maker<N>,
-    count: u32,
-) -> Result<Vec<Caller<N>>, AllocError> {
-    for _ in 1..WORKER {
-        drop(caller_of(office, maker));
-    }
-    let mut callers = Vec::new(alloc);
-    for _ in 0..count {
-        if let Some(caller) = caller_of(office, maker) {
-            callers.push(caller)?;
-        }
-    }
-    Ok(callers)
-}
-
-fn caller_of<N: Naming>(office: &SharedOffice<N>, maker: &mut Maker<N>) -> Option<Caller<N>> {
-    if maker.next > 2 * WORKER {
-        return None;
-    }
-    let pass = office.make(&mut maker.pass, maker.next);
-    maker.next += 1;
-    Some(Caller {
-        pass,
-        made: 0,
-        of: PhantomData,
-    })
-}
-
-fn call_all<N: Naming, R: Wait>(
-    rt: &R,
-    office: &SharedOffice<N>,
-    caller: &mut Caller<N>,
-    calls: u32,
-) {
-    if caller.pass.number() < WORKER {
-        return;
-    }
-    for _ in 0..calls {
-        if let Ok(None) = office.fetch(rt, &mut caller.pass, OutKind::Console) {
-            caller.made = caller.made.wrapping_add(1);
-        }
-    }
-}
-EOF
-mkdir -p "$work/crates/pass_costs/proofs/told"
-cat > "$work/crates/pass_costs/proofs/told/Invariants.antt" <<'EOF'
-use Rattle.std.proofs.Common.{Some}
-use Rattle.pass_costs.proofs.told.Given as goal
-
-abbrev pub ghosts-shared : goal.ghosts-shared
-ghosts-shared g a = record { table = a.opened.table.shared.table_id; program = Some a.opened.table.shared.key.value }
-EOF
-build_over_proved
-# The least of seven runs each, less one without calls.
-python3 - "$work/crates/pass_costs/out/pass_costs" "$work/keys.ol" 3000000 <<'EOF' || failed=1
-import subprocess
-import sys
-import time
-
-program, file, calls = sys.argv[1], sys.argv[2], int(sys.argv[3])
-
-
-def run(how, count):
-    start = time.perf_counter()
-    done = int(subprocess.run([program, file, how, str(count)], capture_output=True, check=True).stdout)
-    took = time.perf_counter() - start
-    if done != count * (4 if how == 'four' else 1):
-        sys.exit(f'{how}: {done} calls of {count} each')
-    return took
-
-
-def least(how):
-    return min(run(how, calls) for _ in range(7)) - min(run(how, 0) for _ in range(7))
-
-
-plain, passed, four = least('plain'), least('pass'), least('four')
-more = (passed - plain) / calls * 1e9
-print(f'a call: {plain / calls * 1e9:.1f} ns plain, {more:.1f} ns more through a pass (at most 100)')
-print(f'four threads: {4 * calls / four / 1e6:.2f} million calls a second in all')
-sys.exit(more > 100)
 EOF
 exit "$failed"
