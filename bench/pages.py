@@ -200,7 +200,7 @@ def run_rows(program, files):
             told += 1
             with open(f"{folder}/twice.ol", "w", encoding="utf-8") as file:
                 file.write(it["file"])
-            words = [program, it["command"], "twice.ol", *it.get("options", "").split()]
+            words = [program, it["command"], it.get("operand", "twice.ol"), *it.get("options", "").split()]
             how = {"cwd": folder, "input": it["input"], "capture_output": True, "text": True}
             ran = subprocess.run(words, **how)
             have = (str(ran.returncode), ran.stdout, ran.stderr)
