@@ -3,7 +3,7 @@
 # of 60,000 messages to 6,000; and of a message to one of 4,096 live sessions, each with a key of its own, to a message
 # to one of 4. Each message is posted, finds its session by its key, and is taken there. Then a history of 65,536
 # messages whose values weigh 64 MiB, all that a run takes, with the memory that it needs, which is to be at most
-# 352 MiB: a value is held twice, and a tree of 1 KiB takes some 2.3. Then, by the clock, what a call through a pass
+# 352 MiB: a value is held twice, and a tree of 1 KiB takes some 2.3. Then, by time, what a call through a pass
 # costs more than the plain call, which is to be at most 100 ns alone, and how many calls a second four threads make. It
 # proves crates of its own over the libraries that `rt ci` proved here, or in the repository that PROVED names, and needs
 # valgrind and python3. Outside the gate:
@@ -224,8 +224,10 @@ anyhow"
 mkdir -p "$work/crates"
 cp -r "$top/bench/office/pass_costs" "$work/crates/"
 build_over_proved
-# The least of seven runs each, less one without calls.
+# The least of seven runs each, less one without calls: of one thread the time of its processor, of four the time by the
+# clock, with how many processors they had meanwhile.
 python3 - "$work/crates/pass_costs/out/pass_costs" "$work/keys.ol" 20000000 <<'EOF' || failed=1
+import resource
 import subprocess
 import sys
 import time
@@ -233,23 +235,29 @@ import time
 program, file, calls = sys.argv[1], sys.argv[2], int(sys.argv[3])
 
 
+def worked():
+    usage = resource.getrusage(resource.RUSAGE_CHILDREN)
+    return usage.ru_utime + usage.ru_stime
+
+
+# The seconds by the clock, and those of processors.
 def run(how, count):
-    start = time.perf_counter()
+    start, before = time.perf_counter(), worked()
     made = int(subprocess.run([program, file, how, str(count)], capture_output=True, check=True).stdout)
-    took = time.perf_counter() - start
     if made != count * (4 if how == 'four' else 1):
         sys.exit(f'{how}: {made} calls of {count} each')
-    return took
+    return time.perf_counter() - start, worked() - before
 
 
 def least(how):
-    return min(run(how, calls) for _ in range(7)) - min(run(how, 0) for _ in range(7))
+    return min(run(how, calls)[1] for _ in range(7)) - min(run(how, 0)[1] for _ in range(7))
 
 
-plain, passed, four = least('plain'), least('pass'), least('four')
+plain, passed = least('plain'), least('pass')
 more = (passed - plain) / calls * 1e9
 print(f'a call: {plain / calls * 1e9:.1f} ns plain, {more:.1f} ns more through a pass (at most 100)')
-print(f'four threads: {4 * calls / four / 1e6:.2f} million calls a second in all')
+took, used = min(run('four', calls) for _ in range(7))
+print(f'four threads, on {used / took:.1f} processors: {4 * calls / took / 1e6:.2f} million calls a second in all')
 sys.exit(more > 100)
 EOF
 exit "$failed"
