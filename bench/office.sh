@@ -3,12 +3,28 @@
 # of 60,000 messages to 6,000; and of a message to one of 4,096 live sessions, each with a key of its own, to a message
 # to one of 4. Each message is posted, finds its session by its key, and is taken there. Then a history of 65,536
 # messages whose values weigh 64 MiB, all that a run takes, with the memory that it needs, which is to be at most
-# 352 MiB: a value is held twice, and a tree of 1 KiB takes some 2.3. It proves a crate of its own over the libraries
-# that `rt ci` proved here, or in the repository that PROVED names, and needs valgrind and python3. Outside the gate:
-# bench/office.sh
+# 352 MiB: a value is held twice, and a tree of 1 KiB takes some 2.3. Then, by time, what a call through a pass
+# costs more than the plain call, which is to be at most 100 ns alone, and how many calls a second four threads make. It
+# proves crates of its own over the libraries that `rt ci` proved here, or in the repository that PROVED names, and needs
+# valgrind and python3. Outside the gate:
+#   bench/office.sh         all of it
+#   bench/office.sh passes  the calls through passes alone
 # shellcheck source=bench/common.sh
 . "$(dirname "$0")/common.sh"
 
+cat > "$work/keys.ol" <<'EOF'
+type Key: void { k: string fill: string }
+interface GoI { OneWay: open(Key), more(Key) }
+service S {
+  execution: concurrent
+  inputPort In { location: "local://s" interfaces: GoI }
+  cset { k: Key.k }
+  main { open(x) ; while (true) { more(x) } }
+}
+EOF
+failed=0
+
+if [ "${1:-}" != passes ]; then
 make_crate "office_costs: test_programs test_conditions office_plain office_core reqresp_book behaviour_tree \
 jolie_trees anyhow" <<'EOF'
 //! An office in which so many sessions are started, each with a key of its own, takes so many messages, each of which
@@ -164,16 +180,6 @@ fn put(alloc: Global, value: &mut Tree, name: &str, text: String) -> Result<(), 
 }
 EOF
 
-cat > "$work/keys.ol" <<'EOF'
-type Key: void { k: string fill: string }
-interface GoI { OneWay: open(Key), more(Key) }
-service S {
-  execution: concurrent
-  inputPort In { location: "local://s" interfaces: GoI }
-  cset { k: Key.k }
-  main { open(x) ; while (true) { more(x) } }
-}
-EOF
 build_over_proved
 program=$work/crates/office_costs/out/office_costs
 
@@ -190,7 +196,6 @@ few=$(($(instructions 1 6000) - start))
 many=$(($(instructions 1 60000) - start))
 small=$(($(instructions 4 4000) - $(instructions 4 0)))
 large=$(($(instructions 4096 4000) - $(instructions 4096 0)))
-failed=0
 echo "$few $many" | awk '{
     printf "6,000 messages: %d instructions, 60,000: %d, ratio %.2f (at most 13)\n", $1, $2, $2 / $1
     exit !($2 <= 13 * $1)
@@ -210,5 +215,49 @@ taken = int(subprocess.run(sys.argv[1:], capture_output=True, check=True).stdout
 mib = resource.getrusage(resource.RUSAGE_CHILDREN).ru_maxrss // 1024
 print(f'{taken:,} messages of 1,024 bytes (65,536): {mib} MiB of memory (at most 352)')
 sys.exit(taken != 65536 or mib > 352)
+EOF
+fi
+
+name=pass_costs
+entry="pass_costs: office_turn office_sharing test_programs test_conditions office_plain office_core behaviour_tree \
+anyhow"
+mkdir -p "$work/crates"
+cp -r "$top/bench/office/pass_costs" "$work/crates/"
+build_over_proved
+# The least of seven runs each, less one without calls: of one thread the time of its processor, of four the time by the
+# clock, with how many processors they had meanwhile.
+python3 - "$work/crates/pass_costs/out/pass_costs" "$work/keys.ol" 20000000 <<'EOF' || failed=1
+import resource
+import subprocess
+import sys
+import time
+
+program, file, calls = sys.argv[1], sys.argv[2], int(sys.argv[3])
+
+
+def worked():
+    usage = resource.getrusage(resource.RUSAGE_CHILDREN)
+    return usage.ru_utime + usage.ru_stime
+
+
+# The seconds by the clock, and those of processors.
+def run(how, count):
+    start, before = time.perf_counter(), worked()
+    made = int(subprocess.run([program, file, how, str(count)], capture_output=True, check=True).stdout)
+    if made != count * (4 if how == 'four' else 1):
+        sys.exit(f'{how}: {made} calls of {count} each')
+    return time.perf_counter() - start, worked() - before
+
+
+def least(how):
+    return min(run(how, calls)[1] for _ in range(7)) - min(run(how, 0)[1] for _ in range(7))
+
+
+plain, passed = least('plain'), least('pass')
+more = (passed - plain) / calls * 1e9
+print(f'a call: {plain / calls * 1e9:.1f} ns plain, {more:.1f} ns more through a pass (at most 100)')
+took, used = min(run('four', calls) for _ in range(7))
+print(f'four threads, on {used / took:.1f} processors: {4 * calls / took / 1e6:.2f} million calls a second in all')
+sys.exit(more > 100)
 EOF
 exit "$failed"
