@@ -222,7 +222,9 @@ name=pass_costs
 entry="pass_costs: office_turn office_sharing test_programs test_conditions office_plain office_core behaviour_tree \
 anyhow"
 mkdir -p "$work/crates"
+# Its files have a second ending there, since the gate lets no text of this kind stand outside of crates.
 cp -r "$top/bench/office/pass_costs" "$work/crates/"
+find "$work/crates/pass_costs" -name '*.txt' | while read -r file; do mv "$file" "${file%.txt}"; done
 build_over_proved
 # The least of seven runs each, less one without calls: of one thread the time of its processor, of four the time by the
 # clock, with how many processors they had meanwhile.
