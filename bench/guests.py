@@ -116,6 +116,13 @@ def reason(number):
     return f"{os.strerror(number)} (os error {number})"
 
 
+def let_in(rows, house, name):
+    """Somebody has come since a try found nobody. The next try is after a rest, by which that is reported."""
+    _, took = house.timed("rest")
+    rows.time(f"a rest where somebody has come: {name}", took, 0, LATE)
+    rows.row(name, house.say("accept"), "came")
+
+
 def is_refused(port):
     try:
         come(port).close()
@@ -152,8 +159,8 @@ def one_door(rows, house, port):
         rows.row("what a guest gets then", guest.recv(64), b"ok")
     guest.shutdown(socket.SHUT_WR)
     rows.row("the end of what a guest sends", house.say("read"), "read ")
-    rows.row("an answer behind it", house.say("write bye"), "wrote 3")
-    rows.row("what a guest gets behind it", guest.recv(64), b"bye")
+    rows.row("an answer after it", house.say("write bye"), "wrote 3")
+    rows.row("what a guest gets after it", guest.recv(64), b"bye")
     rows.row("a wire that goes back", house.say("back"), "back")
     rows.row("a wire that went back is closed", guest.recv(64), b"")
     rows.row("it tells the end", house.say("wires"), "e;")
@@ -162,7 +169,7 @@ def one_door(rows, house, port):
 
 def ill_guests(rows, house, port):
     guest = come(port)
-    rows.row("a guest who says nothing", house.say("accept"), "came")
+    let_in(rows, house, "a guest who says nothing")
     said, took = house.timed("read")
     rows.row("a guest who says nothing is given up", said, "failed")
     rows.time("idle", took, IDLE - 0.01, IDLE + REST + LATE)
@@ -270,7 +277,7 @@ def few_files(rows, program):
 def rests(rows, house, port):
     """A rest lasts where who is there is not let in."""
     guests = [come(port) for _ in range(3)]
-    rows.row("the first of three", house.say("accept"), "came")
+    let_in(rows, house, "the first of three")
     for _ in range(2):
         _, took = house.timed("rest")
         rows.time("a rest beside one who is not let in", took, REST - 0.01, REST + LATE)
@@ -279,7 +286,7 @@ def rests(rows, house, port):
     _, took = house.timed("rest")
     rows.time("a rest that finds somebody", took, 0, LATE)
     _, took = house.timed("rest")
-    rows.time("the rest behind it", took, REST - 0.01, REST + LATE)
+    rows.time("the rest after it", took, REST - 0.01, REST + LATE)
     rows.row("who was found", house.say("accept"), "came")
     for guest in guests:
         house.say("back")

@@ -18,7 +18,7 @@ use std::os::fd::{AsRawFd, RawFd};
 use std::process::ExitCode;
 use std::rt::Clock;
 use std::time::Duration;
-use std::{env, fs, io};
+use std::{env, fs, io, mem};
 
 /// What is wrong with words of which one is no UTF-8.
 const NOT_UTF8: &str = "error: invalid UTF-8 was detected in one or more arguments\n\n\
@@ -60,8 +60,11 @@ fn main(rt: HostRuntime) -> ExitCode {
     };
     match run(alloc, &words, &mut world) {
         Ok(run) => {
-            say_served(&rt, &words, world.doors.counts(), run.status);
-            ended(&rt, &words, run.status)
+            let status = run.status;
+            // The system takes back all memory of what a run leaves at once.
+            mem::forget(run);
+            say_served(&rt, &words, world.doors.counts(), status);
+            ended(&rt, &words, status)
         }
         Err(_) => ended(&rt, &words, OUT_OF_MEMORY),
     }
