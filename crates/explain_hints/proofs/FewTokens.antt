@@ -232,10 +232,11 @@ definitions_before : (text : List ℕ) (tokens : List Token) (at next : ℕ) (d 
 definitions_before text tokens at next d start within ((f, derived), begun) more =
     let k = spelled_one text (get_or tokens next d) in
     let begins_next : begins definition_words (k ∷ more) ≡ true = subst (λ z. begins definition_words (spelled text z) ≡ true) (drop_more tokens next d within) begun in
+    let all_long : next - 0 ≡ next = omega arith in
     let all : spelled text (take at tokens) ++ (spelled text (take (next - at) (drop at tokens)) ++ k ∷ more) ≡ spelled text (take next tokens) ++ k ∷ more =
     ap (λ a. spelled text (take a tokens) ++ (spelled text (take (next - a) (drop a tokens)) ++ k ∷ more)) start
     ∙ ap (λ z. spelled text z ++ (spelled text (take (next - 0) (drop 0 tokens)) ++ k ∷ more)) (none_taken tokens)
-    ∙ ap (λ z. spelled text (take (next - 0) z) ++ k ∷ more) (none_dropped tokens) in
+    ∙ ap (λ z. spelled text (take (next - 0) z) ++ k ∷ more) (none_dropped tokens) ∙ ap (λ m. spelled text (take m tokens) ++ k ∷ more) all_long in
     let few : spelled text (take at tokens) ++ k ∷ more ≡ k ∷ more = ap (λ a. spelled text (take a tokens) ++ k ∷ more) start ∙ ap (λ z. spelled text z ++ k ∷ more) (none_taken tokens) in
     let law = definitions_left_out 64 (spelled text (take next tokens)) (k ∷ more) f derived begins_next in
     (λ x. subst (IsFileOrBegun 64) (sym few) (law.0 (subst (IsFileOrBegun 64) all x)), λ x. subst (IsFileOrBegun 64) (sym all) (law.1 (subst (IsFileOrBegun 64) few x)))
@@ -323,3 +324,7 @@ pub behind_statements : (text : List ℕ) (tokens : List Token) (at next : ℕ) 
     → AreNext 32 (spelled text (take (next - at) (drop at tokens))) → MayGoOnAt text tokens at next
 behind_statements text tokens at next t ordered within item is out =
     record { ordered = ordered; within = within; between = inr (inl (out, is_next text tokens next t within item is)) }
+
+-- at the front, as is known of the front
+pub begins_there : (text : List ℕ) (tokens : List Token) (at begun : ℕ) → at ≡ 0 → MayGoOnAt text tokens 0 begun → MayGoOnAt text tokens at begun
+begins_there text tokens at begun is known = subst (λ a. MayGoOnAt text tokens a begun) (sym is) known

@@ -43,20 +43,18 @@ words_begin = refl
 -- ---- outcomes
 
 -- they differ in what was read alone
-Past : Outcome (List Definition) → Outcome (List Definition) → Type 0
+abbrev Past : Outcome (List Definition) → Outcome (List Definition) → Type 0
 Past (got f r) (got g s) = r ≡ s
 Past (refused r) (refused s) = r ≡ s
 Past (too_deep r) (too_deep s) = r ≡ s
 Past _ _ = ⊥
 
 past_itself : (o : Outcome (List Definition)) → Past o o
-unfolding Past
 past_itself (got f r) = refl
 past_itself (refused r) = refl
 past_itself (too_deep r) = refl
 
 past_left : (p q : Outcome (List Definition)) (d : Definition) → Past p q → Past (and_then p (λ more r. got (d ∷ more) r)) q
-unfolding Past
 past_left (got a r) (got b s) d h = h
 past_left (refused r) (refused s) d h = h
 past_left (too_deep r) (too_deep s) d h = h
@@ -72,7 +70,6 @@ got_alike f g [] h = tt
 got_alike f g (t ∷ r) h = h
 
 past_ends : (p q : Outcome (List Definition)) → Past p q → (Ends (whole p) → Ends (whole q)) × (Ends (whole q) → Ends (whole p))
-unfolding Past
 past_ends (got f r) (got g s) e = (λ h. subst (λ z. Ends (whole (got g z))) e (got_alike f g r h), λ h. subst (λ z. Ends (whole (got f z))) (sym e) (got_alike g f s h))
 past_ends (refused r) (refused s) e = (λ h. subst (λ z. Ends (refused z)) e h, λ h. subst (λ z. Ends (refused z)) (sym e) h)
 past_ends (too_deep r) (too_deep s) e = (λ h. absurd h, λ h. absurd h)

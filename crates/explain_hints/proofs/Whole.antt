@@ -16,6 +16,15 @@ use Rattle.explain_hints.specs.Short.{moved, definition_words, AreWhole, HaveTok
 use Rattle.explain_hints.proofs.Joined.{read_joined}
 use Rattle.explain_hints.proofs.FewTokens.{spelled_longer}
 
+-- ---- what is found of bytes
+
+pub have_tokens : (bytes : List ℕ) (tokens : List Token) → IsRead bytes tokens → HaveTokens bytes
+have_tokens bytes tokens read = record { tokens = tokens; read = read }
+
+pub are_whole : (bytes : List ℕ) (tokens : List Token) (count : ℕ) (f : List Definition) → IsRead bytes tokens → count ≡ length tokens → IsFile 64 (spelled bytes tokens) f
+    → AreWhole bytes count
+are_whole bytes tokens count f read counted derived = record { tokens = tokens; read = read; counted = counted; definitions = f; derived = derived }
+
 -- ---- the parts of a text
 
 pub parted : (text : List ℕ) (feed count : ℕ) → feed < length text → get_or text feed 0 ≡ 10 → AreWhole (take feed text) count → HaveTokens (drop (feed + 1) text)

@@ -84,6 +84,7 @@ fn whole_before(alloc: Global, text: &[u8], feed: usize) -> Result<Option<usize>
 }
 
 /// Whether bytes have tokens.
+#[tactic(auto, using(crate::proofs::Whole::have_tokens))]
 fn has_tokens(alloc: Global, bytes: &[u8]) -> Result<bool, AllocError>
     ensures { IfOk result (λ found. found ≡ true → HaveTokens bytes.now) }
 {
@@ -110,6 +111,7 @@ fn definitions_in(alloc: Global, bytes: &[u8]) -> Result<Option<usize>, AllocErr
 }
 
 /// How many tokens these are, where they are whole definitions.
+#[tactic(auto, using(crate::proofs::Whole::are_whole))]
 fn whole(alloc: Global, bytes: &[u8], tokens: &Tokens) -> Result<Option<usize>, AllocError>
     requires fits { length bytes.now ≤ longest }
     requires lexed { IsRead bytes.now tokens.now }

@@ -76,29 +76,34 @@ fn without_statements(
 {
     let lasts = last_semicolons(alloc, tokens)?;
     let mut short = Tokens::new(alloc);
-    short.push(moved_copy(&tokens[begun], 0)?)?;
-    let mut at = begun + 1;
+    let mut at = 0;
     while at < tokens.len() {
-        let next = next_kept(alloc, text, tokens, at, lasts.as_slice())?;
+        let next = next_kept(alloc, text, tokens, at, begun, lasts.as_slice())?;
         short.push(moved_copy(&tokens[next], 0)?)?;
         at = next + 1;
     }
     Ok(short)
 }
 
-/// Where tokens may go on from a place on: after the statements of its level, if they may be left out.
-#[tactic(auto, using(crate::proofs::FewTokens::stays, crate::proofs::FewTokens::behind_statements))]
+/// Where tokens may go on from a place on: from the first one where they begin, and else after the statements of its
+/// level, if they may be left out.
+#[tactic(auto, using(crate::proofs::FewTokens::begins_there, crate::proofs::FewTokens::stays, crate::proofs::FewTokens::behind_statements))]
 fn next_kept(
     alloc: Global,
     text: &[u8],
     tokens: &[Token],
     at: usize,
+    begun: usize,
     lasts: &[usize],
 ) -> Result<usize, AllocError>
     requires stand { All (StandsIn text.now) tokens.now }
     requires within { at < length tokens.now }
+    requires begun { MayGoOnAt text.now tokens.now 0 begun }
     ensures { IfOk result (λ next. MayGoOnAt text.now tokens.now at next) }
 {
+    if at == 0 {
+        return Ok(begun);
+    }
     let Some(last) = lasts.get(at) else {
         return Ok(at);
     };
