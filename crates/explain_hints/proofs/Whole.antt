@@ -27,12 +27,12 @@ are_whole bytes tokens count f read counted derived = record { tokens = tokens; 
 
 -- ---- the parts of a text
 
-pub parted : (text : List ℕ) (feed count : ℕ) → feed < length text → get_or text feed 0 ≡ 10 → AreWhole (take feed text) count → HaveTokens (drop (feed + 1) text)
+pub parted : (text : List ℕ) (feed count d : ℕ) → feed < length text → get_or text feed d ≡ 10 → AreWhole (take feed text) count → HaveTokens (drop (feed + 1) text)
     → IsParted text count
-parted text feed count within is whole more = record {
+parted text feed count d within is whole more = record {
   front = take feed text;
   rest = drop (feed + 1) text;
-  parts = sym (take-append-drop feed text) ∙ ap (λ z. take feed text ++ z) (drop_more text feed 0 within ∙ ap (λ b. b ∷ drop (feed + 1) text) is);
+  parts = sym (take-append-drop feed text) ∙ ap (λ z. take feed text ++ z) (drop_more text feed d within ∙ ap (λ b. b ∷ drop (feed + 1) text) is);
   whole = whole;
   more = more;
 }
