@@ -10,9 +10,9 @@ use Rattle.jolie_ast.specs.declared.tree.Definition.{Definition}
 use Rattle.jolie_parse.specs.declared.class.Class.TheVariants as class
 use Rattle.jolie_parse.specs.Classes.{spelled, spelled_one, class_of, has, begins}
 use Rattle.jolie_parse.specs.Grammar.{IsFile}
-use Rattle.jolie_parse.specs.Words.{word_of}
+use Rattle.jolie_parse.specs.Words.{counted, word_of}
 use Rattle.jolie_parse.proofs.Spellings.{tokens_stand}
-use Rattle.explain_hints.specs.Short.{moved, definition_words, AreWhole, HaveTokens, IsParted, MayGoOnAt}
+use Rattle.explain_hints.specs.Short.{moved, definition_words, AreWhole, BeginsDefinition, HaveTokens, IsParted, MayGoOnAt}
 use Rattle.explain_hints.proofs.Joined.{read_joined}
 use Rattle.explain_hints.proofs.FewTokens.{spelled_longer}
 
@@ -46,7 +46,7 @@ tokens_are text tokens count read p =
 
 front_is : (xs ys : List Token) (count : ℕ) → count ≡ length xs → take count (xs ++ ys) ≡ xs
 front_is xs ys count is =
-    ap (λ n. take n (xs ++ ys)) is ∙ take-append-le (length xs) xs ys (omega arith) ∙ take_all xs (length xs) (omega arith)
+    ap (λ n. take n (xs ++ ys)) is ∙ take-append-le (length xs) xs ys (omega arith) ∙ take_all (length xs) xs (omega arith)
 
 front_derives : (text : List ℕ) (tokens : List Token) (count : ℕ) → IsRead text tokens → (p : IsParted text count)
     → IsFile 64 (spelled text (take count tokens)) p.whole.definitions
@@ -60,10 +60,10 @@ front_derives text tokens count read p =
 -- ---- the last definition
 
 pub last_begins : (text : List ℕ) (tokens : List Token) (count : ℕ) (t : Token) → IsRead text tokens → IsParted text count → count < length tokens
-    → t ≡ get_or tokens count t → has definition_words (class_of t.kind (spelled_one text t).spelling) ≡ true → MayGoOnAt text tokens 0 count
+    → t ≡ get_or tokens count t → BeginsDefinition (class_of t.kind (take t.len (drop t.at text))) → MayGoOnAt text tokens 0 count
 last_begins text tokens count t read p within item is =
     let there : has definition_words (class_of (get_or tokens count t).kind (spelled_one text (get_or tokens count t)).spelling) ≡ true =
-    subst (λ z. has definition_words (class_of z.kind (spelled_one text z).spelling) ≡ true) item is in
+    subst (λ z. has definition_words (class_of z.kind (spelled_one text z).spelling) ≡ true) item is.among in
     let begun : begins definition_words (spelled text (drop count tokens)) ≡ true =
     subst (λ z. begins definition_words (spelled text z) ≡ true) (sym (drop_more tokens count t within)) there in
     record { ordered = omega arith; within = within; between = inr (inr (refl, ((p.whole.definitions, front_derives text tokens count read p), begun))) }
@@ -73,14 +73,23 @@ nothing_left_out text tokens some = record { ordered = omega arith; within = som
 
 -- ---- the words
 
-pub type_begins : has definition_words (class.Word (word_of (codes "type"))) ≡ true
-unfolding word_of
+type_begins : has definition_words (class.Word (word_of (codes "type"))) ≡ true
+unfolding word_of counted
 type_begins = refl
 
-pub interface_begins : has definition_words (class.Word (word_of (codes "interface"))) ≡ true
-unfolding word_of
+interface_begins : has definition_words (class.Word (word_of (codes "interface"))) ≡ true
+unfolding word_of counted
 interface_begins = refl
 
-pub service_begins : has definition_words (class.Word (word_of (codes "service"))) ≡ true
-unfolding word_of
+service_begins : has definition_words (class.Word (word_of (codes "service"))) ≡ true
+unfolding word_of counted
 service_begins = refl
+
+pub of_type : (bytes : List ℕ) → bytes ≡ codes "type" → BeginsDefinition (class.Word (word_of bytes))
+of_type bytes is = subst (λ z. BeginsDefinition (class.Word (word_of z))) (sym is) (record { among = type_begins })
+
+pub of_interface : (bytes : List ℕ) → bytes ≡ codes "interface" → BeginsDefinition (class.Word (word_of bytes))
+of_interface bytes is = subst (λ z. BeginsDefinition (class.Word (word_of z))) (sym is) (record { among = interface_begins })
+
+pub of_service : (bytes : List ℕ) → bytes ≡ codes "service" → BeginsDefinition (class.Word (word_of bytes))
+of_service bytes is = subst (λ z. BeginsDefinition (class.Word (word_of z))) (sym is) (record { among = service_begins })

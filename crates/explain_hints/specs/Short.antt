@@ -9,7 +9,7 @@ use Rattle.jolie_ast.specs.declared.tree.Definition.{Definition}
 use Rattle.jolie_parse.specs.declared.class.Class.{Class}
 use Rattle.jolie_parse.specs.declared.class.Class.TheVariants as class
 use Rattle.jolie_parse.specs.declared.word.Word.TheVariants as the
-use Rattle.jolie_parse.specs.Classes.{Spelled, spelled, begins, StandsIn}
+use Rattle.jolie_parse.specs.Classes.{Spelled, spelled, begins, has, StandsIn}
 use Rattle.jolie_parse.specs.Grammar.{IsFile}
 use Rattle.jolie_parse.specs.LeftOut.{IsFileOrBegun, AreNext}
 
@@ -43,6 +43,10 @@ MayBeLeftOut text tokens at next =
 -- the words with which a definition begins
 abbrev pub definition_words : List Class
 definition_words = class.Word the.Type ∷ class.Word the.Interface ∷ class.Word the.Service ∷ []
+
+-- a token of this class begins a definition
+pub record BeginsDefinition (k : Class) : Type 0 where
+  pub among : has definition_words k ≡ true
 
 -- so many tokens of a text are whole definitions, and another begins after them
 abbrev pub AreDefinitions : List ℕ → List Token → ℕ → Type 0

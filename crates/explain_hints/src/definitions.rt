@@ -3,9 +3,9 @@
 ghost use Rattle.std.specs.Prelude.{◌≡◌, ◌<◌, ◌≤◌, true, length, take, drop, IfOk, IfSome};
 ghost use Rattle.jolie_tokens.specs.Texts.{longest, IsRead};
 ghost use Rattle.jolie_parse.specs.declared.class.Class.TheVariants as class;
-ghost use Rattle.jolie_parse.specs.Classes.{class_of, has};
+ghost use Rattle.jolie_parse.specs.Classes.{class_of};
 ghost use Rattle.jolie_parse.specs.Words.{word_of};
-ghost use Rattle.explain_hints.specs.Short.{definition_words, AreWhole, HaveTokens, IsParted, MayGoOnAt};
+ghost use Rattle.explain_hints.specs.Short.{AreWhole, BeginsDefinition, HaveTokens, IsParted, MayGoOnAt};
 
 use crate::trial::unless_memory;
 use explain_places::{before, behind};
@@ -128,7 +128,7 @@ fn whole(alloc: Global, bytes: &[u8], tokens: &Tokens) -> Result<Option<usize>, 
 /// Whether a token of a text is a word with which a definition begins.
 fn begins_definition(text: &[u8], token: &Token) -> bool
     ensures { result ≡ true
-        → has definition_words (class_of token.now.kind (take token.now.len (drop token.now.at text.now))) ≡ true }
+        → BeginsDefinition (class_of token.now.kind (take token.now.len (drop token.now.at text.now))) }
 {
     match &token.kind {
         TokenKind::Word => {
@@ -139,11 +139,22 @@ fn begins_definition(text: &[u8], token: &Token) -> bool
 }
 
 /// Whether a definition begins with a word of this spelling.
-#[tactic(auto, using(crate::proofs::Whole::type_begins, crate::proofs::Whole::interface_begins, crate::proofs::Whole::service_begins))]
+#[tactic(auto, using(crate::proofs::Whole::of_type, crate::proofs::Whole::of_interface, crate::proofs::Whole::of_service))]
 fn is_definition_word(spelling: &[u8]) -> bool
-    ensures { result ≡ true → has definition_words (class.Word (word_of spelling.now)) ≡ true }
+    ensures { result ≡ true → BeginsDefinition (class.Word (word_of spelling.now)) }
 {
-    spelling == "type".as_bytes()
-        || spelling == "interface".as_bytes()
-        || spelling == "service".as_bytes()
+    if is_word(spelling, "type") {
+        return true;
+    }
+    if is_word(spelling, "interface") {
+        return true;
+    }
+    is_word(spelling, "service")
+}
+
+/// Whether a spelling is that of a word.
+fn is_word(spelling: &[u8], word: &str) -> bool
+    ensures { result ≡ true → spelling.now ≡ word.now }
+{
+    spelling == word.as_bytes()
 }
