@@ -355,13 +355,13 @@ impl<'a> Mentions<'a> {
     }
 
     /// The faults with which a call at a socket may come back, at the place of its port.
-    #[tactic(auto, using(crate::proofs::Turns::three_more))]
     fn calling(&mut self, port: &Name) -> Result<(), AllocError>
         ensures { OnOk result (self.new ≡ self.old ++ calling port.now) }
     {
         self.put(Role::Calling, port.at, "IOException")?;
         self.put(Role::Calling, port.at, "TypeMismatch")?;
-        self.put(Role::Calling, port.at, "UndeclaredFault")
+        self.put(Role::Calling, port.at, "UndeclaredFault")?;
+        Ok(())
     }
 
     /// A fault that is thrown.
