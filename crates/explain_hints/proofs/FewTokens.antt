@@ -18,10 +18,11 @@ use Rattle.jolie_parse.specs.Classes.{Spelled, spelled_one, spelled, place, clas
 use Rattle.jolie_parse.specs.LeftOut.{IsFileOrBegun, IsShallow, AreNext}
 use Rattle.jolie_parse.specs.Levels.{IsRefused, rest_place}
 use Rattle.jolie_parse.proofs.LeftOut.{statements_left_out}
+use Rattle.explain_hints.proofs.ReadPast.{definitions_left_out}
 use Rattle.jolie_parse.proofs.Spellings.{tokens_stand}
 use Rattle.explain_hints.specs.MayStand as placed
 use Rattle.explain_hints.specs.MayStand.{MayGoOn}
-use Rattle.explain_hints.specs.Short.{moved, ComesTo, StandFor, MayBeLeftOut, MayGoOnAt}
+use Rattle.explain_hints.specs.Short.{moved, ComesTo, StandFor, MayBeLeftOut, MayGoOnAt, AreDefinitions, definition_words}
 use Rattle.explain_hints.proofs.Joined.{read_joined}
 
 -- ---- lists
@@ -43,6 +44,10 @@ none_taken : {A : Type 0} (xs : List A) → take 0 xs ≡ []
 none_taken [] = refl
 none_taken (x ∷ xs) = refl
 
+none_dropped : {A : Type 0} (xs : List A) → drop 0 xs ≡ xs
+none_dropped [] = refl
+none_dropped (x ∷ xs) = refl
+
 -- ---- tokens of bytes, in longer bytes
 
 one_longer : (a c : List ℕ) (t : Token) → StandsIn a t → spelled_one (a ++ c) t ≡ spelled_one a t
@@ -51,7 +56,7 @@ one_longer a c t h =
     let long : t.len ≤ length (drop t.at a) = omega (arith, h.within, length-drop t.at a) in
     ap (λ s. record { token = t; spelling = s }) (ap (take t.len) (drop-append-le t.at a c at) ∙ take-append-le t.len (drop t.at a) c long)
 
-spelled_longer : (a c : List ℕ) (ts : List Token) → All (StandsIn a) ts → spelled (a ++ c) ts ≡ spelled a ts
+pub spelled_longer : (a c : List ℕ) (ts : List Token) → All (StandsIn a) ts → spelled (a ++ c) ts ≡ spelled a ts
 spelled_longer a c [] h = refl
 spelled_longer a c (t ∷ ts) h =
     ap (λ z. z ∷ spelled (a ++ c) ts) (one_longer a c t (all_first (StandsIn a) t ts h))
@@ -221,25 +226,41 @@ nothing_left_out before out k none more =
     let same : before ++ (out ++ k ∷ more) ≡ before ++ k ∷ more = ap (λ z. before ++ (z ++ k ∷ more)) none in
     (λ x. subst (IsFileOrBegun 64) same x, λ x. subst (IsFileOrBegun 64) (sym same) x)
 
+definitions_before : (text : List ℕ) (tokens : List Token) (at next : ℕ) (d : Token) → at ≡ 0 → next < length tokens → AreDefinitions text tokens next → (more : List Spelled)
+    → IsFileOrBegun 64 (spelled text (take at tokens) ++ (spelled text (take (next - at) (drop at tokens)) ++ spelled_one text (get_or tokens next d) ∷ more))
+    ↔ IsFileOrBegun 64 (spelled text (take at tokens) ++ spelled_one text (get_or tokens next d) ∷ more)
+definitions_before text tokens at next d start within ((f, derived), begun) more =
+    let k = spelled_one text (get_or tokens next d) in
+    let begins_next : begins definition_words (k ∷ more) ≡ true = subst (λ z. begins definition_words (spelled text z) ≡ true) (drop_more tokens next d within) begun in
+    let all_long : next - 0 ≡ next = omega arith in
+    let all : spelled text (take at tokens) ++ (spelled text (take (next - at) (drop at tokens)) ++ k ∷ more) ≡ spelled text (take next tokens) ++ k ∷ more =
+    ap (λ a. spelled text (take a tokens) ++ (spelled text (take (next - a) (drop a tokens)) ++ k ∷ more)) start
+    ∙ ap (λ z. spelled text z ++ (spelled text (take (next - 0) (drop 0 tokens)) ++ k ∷ more)) (none_taken tokens)
+    ∙ ap (λ z. spelled text (take (next - 0) z) ++ k ∷ more) (none_dropped tokens) ∙ ap (λ m. spelled text (take m tokens) ++ k ∷ more) all_long in
+    let few : spelled text (take at tokens) ++ k ∷ more ≡ k ∷ more = ap (λ a. spelled text (take a tokens) ++ k ∷ more) start ∙ ap (λ z. spelled text z ++ k ∷ more) (none_taken tokens) in
+    let law = definitions_left_out 64 (spelled text (take next tokens)) (k ∷ more) f derived begins_next in
+    (λ x. subst (IsFileOrBegun 64) (sym few) (law.0 (subst (IsFileOrBegun 64) all x)), λ x. subst (IsFileOrBegun 64) (sym all) (law.1 (subst (IsFileOrBegun 64) few x)))
+
 left_out : (text : List ℕ) (tokens : List Token) (at next : ℕ) (d : Token) → IsShallow 32 (spelled text tokens) → MayGoOnAt text tokens at next → (more : List Spelled)
     → IsFileOrBegun 64 (spelled text (take at tokens) ++ (spelled text (take (next - at) (drop at tokens)) ++ spelled_one text (get_or tokens next d) ∷ more))
     ↔ IsFileOrBegun 64 (spelled text (take at tokens) ++ spelled_one text (get_or tokens next d) ∷ more)
 left_out text tokens at next d shallow on more = by on.between
   where
-    by : (next ≡ at) ⊎ MayBeLeftOut text tokens at next
+    by : (next ≡ at) ⊎ (MayBeLeftOut text tokens at next ⊎ ((at ≡ 0) × AreDefinitions text tokens next))
         → IsFileOrBegun 64 (spelled text (take at tokens) ++ (spelled text (take (next - at) (drop at tokens)) ++ spelled_one text (get_or tokens next d) ∷ more))
         ↔ IsFileOrBegun 64 (spelled text (take at tokens) ++ spelled_one text (get_or tokens next d) ∷ more)
     by (inl same) =
         let zero_long : next - at ≡ 0 = omega (arith, same) in
         nothing_left_out (spelled text (take at tokens)) (spelled text (take (next - at) (drop at tokens))) (spelled_one text (get_or tokens next d))
         (ap (λ n. spelled text (take n (drop at tokens))) zero_long ∙ ap (spelled text) (none_taken (drop at tokens))) more
-    by (inr out) =
+    by (inr (inl out)) =
         let parts : spelled text tokens ≡ spelled text (take at tokens) ++ spelled text (drop at tokens) =
         ap (spelled text) (sym (take-append-drop at tokens)) ∙ map-append (spelled_one text) (take at tokens) (drop at tokens) in
         let levels : 32 + 32 ≤ 64 = omega arith in
         statements_left_out 32 32 64 (spelled text (take at tokens)) (spelled text (take (next - at) (drop at tokens))) (spelled_one text (get_or tokens next d) ∷ more) levels
         (shallow_front 32 (spelled text (take at tokens)) (spelled text (drop at tokens)) (subst (IsShallow 32) parts shallow)) out.0
         (subst (λ z. begins (class.Sign Semicolon ∷ []) (spelled text z) ≡ true) (drop_more tokens next d on.within) out.1)
+    by (inr (inr (start, definitions))) = definitions_before text tokens at next d start on.within definitions more
 
 taken_on : (text : List ℕ) (tokens : List Token) (at next : ℕ) (d : Token) → at ≤ next → next < length tokens
     → spelled text (take (next + 1) tokens) ≡ spelled text (take at tokens) ++ (spelled text (take (next - at) (drop at tokens)) ++ spelled_one text (get_or tokens next d) ∷ [])
@@ -302,4 +323,8 @@ is_next text tokens at t within item is =
 pub behind_statements : (text : List ℕ) (tokens : List Token) (at next : ℕ) (t : Token) → at ≤ next → next < length tokens → t ≡ get_or tokens next t → t.kind ≡ kind.Sign Semicolon
     → AreNext 32 (spelled text (take (next - at) (drop at tokens))) → MayGoOnAt text tokens at next
 behind_statements text tokens at next t ordered within item is out =
-    record { ordered = ordered; within = within; between = inr (out, is_next text tokens next t within item is) }
+    record { ordered = ordered; within = within; between = inr (inl (out, is_next text tokens next t within item is)) }
+
+-- at the front, as is known of the front
+pub begins_there : (text : List ℕ) (tokens : List Token) (at begun : ℕ) → at ≡ 0 → MayGoOnAt text tokens 0 begun → MayGoOnAt text tokens at begun
+begins_there text tokens at begun is known = subst (λ a. MayGoOnAt text tokens a begun) (sym is) known

@@ -5,8 +5,12 @@ use Rattle.std.specs.List.{All}
 use Rattle.jolie_tokens.specs.declared.sign.Sign.TheVariants.{Semicolon}
 use Rattle.jolie_tokens.specs.declared.token.Token.{Token}
 use Rattle.jolie_tokens.specs.Texts.{longest, IsRead}
+use Rattle.jolie_ast.specs.declared.tree.Definition.{Definition}
+use Rattle.jolie_parse.specs.declared.class.Class.{Class}
 use Rattle.jolie_parse.specs.declared.class.Class.TheVariants as class
-use Rattle.jolie_parse.specs.Classes.{Spelled, spelled, begins, StandsIn}
+use Rattle.jolie_parse.specs.declared.word.Word.TheVariants as the
+use Rattle.jolie_parse.specs.Classes.{Spelled, spelled, begins, has, StandsIn}
+use Rattle.jolie_parse.specs.Grammar.{IsFile}
 use Rattle.jolie_parse.specs.LeftOut.{IsFileOrBegun, AreNext}
 
 -- a text, and a place of it
@@ -36,8 +40,44 @@ MayBeLeftOut text tokens at next =
     AreNext 32 (spelled text (take (next - at) (drop at tokens)))
     × (begins (class.Sign Semicolon ∷ []) (spelled text (drop next tokens)) ≡ true)
 
--- from a place on the tokens of a text may go on at the next one: it is the same, or what is between may be left out
+-- the words with which a definition begins
+abbrev pub definition_words : List Class
+definition_words = class.Word the.Type ∷ class.Word the.Interface ∷ class.Word the.Service ∷ []
+
+-- a token of this class begins a definition
+pub record BeginsDefinition (k : Class) : Type 0 where
+  pub among : has definition_words k ≡ true
+
+-- so many tokens of a text are whole definitions, and another begins after them
+abbrev pub AreDefinitions : List ℕ → List Token → ℕ → Type 0
+AreDefinitions text tokens count =
+    ((f : List Definition) × IsFile 64 (spelled text (take count tokens)) f)
+    × (begins definition_words (spelled text (drop count tokens)) ≡ true)
+
+-- from a place on the tokens of a text may go on at the next one: it is the same, or what is between may be left out,
+-- be it statements or the definitions before the last one
 pub record MayGoOnAt (text : List ℕ) (tokens : List Token) (at next : ℕ) : Type 0 where
   pub ordered : at ≤ next
   pub within : next < length tokens
-  pub between : (next ≡ at) ⊎ MayBeLeftOut text tokens at next
+  pub between : (next ≡ at) ⊎ (MayBeLeftOut text tokens at next ⊎ ((at ≡ 0) × AreDefinitions text tokens next))
+
+-- the bytes are definitions of so many tokens
+pub record AreWhole (bytes : List ℕ) (count : ℕ) : Type 0 where
+  pub tokens : List Token
+  pub read : IsRead bytes tokens
+  pub counted : count ≡ length tokens
+  pub definitions : List Definition
+  pub derived : IsFile 64 (spelled bytes tokens) definitions
+
+-- the bytes have tokens
+pub record HaveTokens (bytes : List ℕ) : Type 0 where
+  pub tokens : List Token
+  pub read : IsRead bytes tokens
+
+-- the bytes are two parts with a line feed between: definitions of so many tokens, and what has tokens
+pub record IsParted (bytes : List ℕ) (count : ℕ) : Type 0 where
+  pub front : List ℕ
+  pub rest : List ℕ
+  pub parts : bytes ≡ front ++ 10 ∷ rest
+  pub whole : AreWhole front count
+  pub more : HaveTokens rest

@@ -6,6 +6,7 @@
 #![tactic(auto)]
 
 mod copies;
+mod definitions;
 mod found;
 mod hint;
 mod prefix;

@@ -1,4 +1,4 @@
-//! Few tokens that stand for those of many bytes: statements that may be left out are.
+//! Few tokens that stand for those of many bytes: definitions and statements that may be left out are.
 
 ghost use Rattle.std.specs.Prelude.{◌≡◌, ◌≤◌, ◌<◌, true, ◌∷◌, ◌++◌, length, IfOk, IfSome};
 ghost use Rattle.std.specs.List.{All};
@@ -8,6 +8,7 @@ ghost use Rattle.jolie_parse.specs.LeftOut.{IsShallow};
 ghost use Rattle.explain_hints.specs.Short.{StandFor, MayGoOnAt};
 
 use crate::copies::{joined, moved_copy};
+use crate::definitions::last_definition;
 use crate::semicolons::{is_semicolon, last_semicolons};
 use crate::trial::unless_memory;
 use jolie_parse::{Beginning, are_next_statements, begin_file};
@@ -39,10 +40,11 @@ fn shortened(alloc: Global, text: &[u8], tokens: &[Token]) -> Result<Option<Toke
     requires lexed { IsRead text.now tokens.now }
     ensures { IfOk result (λ short. IfSome short (λ tokens. StandFor text.now tokens)) }
 {
-    if !is_shallow(alloc, text, tokens)? {
+    if tokens.is_empty() || !is_shallow(alloc, text, tokens)? {
         return Ok(None);
     }
-    Ok(Some(without_statements(alloc, text, tokens)?))
+    let begun = last_definition(alloc, text, tokens)?;
+    Ok(Some(without_statements(alloc, text, tokens, begun)?))
 }
 
 /// Whether tokens of a text nest in so few levels that statements of them may be left out.
@@ -57,39 +59,51 @@ fn is_shallow(alloc: Global, text: &[u8], tokens: &[Token]) -> Result<bool, Allo
     }
 }
 
-/// The tokens of a text without statements that may be left out.
+/// The tokens of a text without what may be left out: the definitions before this place, and statements.
 #[tactic(auto, using(crate::proofs::FewTokens::next_fits))]
-fn without_statements(alloc: Global, text: &[u8], tokens: &[Token]) -> Result<Tokens, AllocError>
+fn without_statements(
+    alloc: Global,
+    text: &[u8],
+    tokens: &[Token],
+    begun: usize,
+) -> Result<Tokens, AllocError>
     requires fits { length text.now ≤ longest }
     requires lexed { IsRead text.now tokens.now }
     requires stand { All (StandsIn text.now) tokens.now }
     requires shallow { IsShallow 32 (spelled text.now tokens.now) }
+    requires begun { MayGoOnAt text.now tokens.now 0 begun }
     ensures { IfOk result (λ short. StandFor text.now short) }
 {
     let lasts = last_semicolons(alloc, tokens)?;
     let mut short = Tokens::new(alloc);
     let mut at = 0;
     while at < tokens.len() {
-        let next = next_kept(alloc, text, tokens, at, lasts.as_slice())?;
+        let next = next_kept(alloc, text, tokens, at, begun, lasts.as_slice())?;
         short.push(moved_copy(&tokens[next], 0)?)?;
         at = next + 1;
     }
     Ok(short)
 }
 
-/// Where tokens may go on from a place on: after the statements of its level, if they may be left out.
-#[tactic(auto, using(crate::proofs::FewTokens::stays, crate::proofs::FewTokens::behind_statements))]
+/// Where tokens may go on from a place on: from the first one where they begin, and else after the statements of its
+/// level, if they may be left out.
+#[tactic(auto, using(crate::proofs::FewTokens::begins_there, crate::proofs::FewTokens::stays, crate::proofs::FewTokens::behind_statements))]
 fn next_kept(
     alloc: Global,
     text: &[u8],
     tokens: &[Token],
     at: usize,
+    begun: usize,
     lasts: &[usize],
 ) -> Result<usize, AllocError>
     requires stand { All (StandsIn text.now) tokens.now }
     requires within { at < length tokens.now }
+    requires begun { MayGoOnAt text.now tokens.now 0 begun }
     ensures { IfOk result (λ next. MayGoOnAt text.now tokens.now at next) }
 {
+    if at == 0 {
+        return Ok(begun);
+    }
     let Some(last) = lasts.get(at) else {
         return Ok(at);
     };

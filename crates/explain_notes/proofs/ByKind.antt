@@ -10,22 +10,23 @@ use Rattle.explain_notes.specs.Notes.{Noted, Told, kinds_always, kinds_by_sessio
 use Rattle.explain_notes.proofs.Turns.{behind_two}
 
 -- a kind that is noted of names that nothing meets
-pub of_the_unmet : (k : NoteKind) (met content : List (List ℕ)) (ms : Seen) → (k ≡ kind.TreeCut → ⊥) → (k ≡ kind.LiteralCut → ⊥) → (k ≡ kind.OwnSocket → ⊥) → (k ≡ kind.Unanswered → ⊥)
+pub of_the_unmet : (k : NoteKind) (met content : List (List ℕ)) (ms : Seen) → (k ≡ kind.TreeCut → ⊥) → (k ≡ kind.LiteralCut → ⊥) → (k ≡ kind.OwnSocket → ⊥) → (k ≡ kind.Unanswered → ⊥) → (k ≡ kind.CallEndsLoop → ⊥)
     → notes_by k met content ms ≡ notes_after k met ms
-of_the_unmet kind.Uncaught met content ms tree literal socket unanswered = refl
-of_the_unmet kind.UncaughtInLoop met content ms tree literal socket unanswered = refl
-of_the_unmet kind.EndsService met content ms tree literal socket unanswered = refl
-of_the_unmet kind.EndsLoop met content ms tree literal socket unanswered = refl
-of_the_unmet kind.Unthrown met content ms tree literal socket unanswered = refl
-of_the_unmet kind.NothingUndone met content ms tree literal socket unanswered = refl
-of_the_unmet kind.Unsent met content ms tree literal socket unanswered = refl
-of_the_unmet kind.OwnSocket met content ms tree literal socket unanswered = absurd (socket refl)
-of_the_unmet kind.Unset met content ms tree literal socket unanswered = refl
-of_the_unmet kind.Unread met content ms tree literal socket unanswered = refl
-of_the_unmet kind.Forgotten met content ms tree literal socket unanswered = refl
-of_the_unmet kind.TreeCut met content ms tree literal socket unanswered = absurd (tree refl)
-of_the_unmet kind.LiteralCut met content ms tree literal socket unanswered = absurd (literal refl)
-of_the_unmet kind.Unanswered met content ms tree literal socket unanswered = absurd (unanswered refl)
+of_the_unmet kind.Uncaught met content ms tree literal socket unanswered calls = refl
+of_the_unmet kind.UncaughtInLoop met content ms tree literal socket unanswered calls = refl
+of_the_unmet kind.EndsService met content ms tree literal socket unanswered calls = refl
+of_the_unmet kind.EndsLoop met content ms tree literal socket unanswered calls = refl
+of_the_unmet kind.CallEndsLoop met content ms tree literal socket unanswered calls = absurd (calls refl)
+of_the_unmet kind.Unthrown met content ms tree literal socket unanswered calls = refl
+of_the_unmet kind.NothingUndone met content ms tree literal socket unanswered calls = refl
+of_the_unmet kind.Unsent met content ms tree literal socket unanswered calls = refl
+of_the_unmet kind.OwnSocket met content ms tree literal socket unanswered calls = absurd (socket refl)
+of_the_unmet kind.Unset met content ms tree literal socket unanswered calls = refl
+of_the_unmet kind.Unread met content ms tree literal socket unanswered calls = refl
+of_the_unmet kind.Forgotten met content ms tree literal socket unanswered calls = refl
+of_the_unmet kind.TreeCut met content ms tree literal socket unanswered calls = absurd (tree refl)
+of_the_unmet kind.LiteralCut met content ms tree literal socket unanswered calls = absurd (literal refl)
+of_the_unmet kind.Unanswered met content ms tree literal socket unanswered calls = absurd (unanswered refl)
 
 -- a kind whose names no text meets
 pub met_by_no_text : (t : Told) (k : NoteKind) → (k ≡ kind.Uncaught → ⊥) → (k ≡ kind.UncaughtInLoop → ⊥) → (k ≡ kind.Unthrown → ⊥) → (k ≡ kind.OwnSocket → ⊥) → (k ≡ kind.Unset → ⊥)
@@ -34,6 +35,7 @@ met_by_no_text t kind.Uncaught uncaught many unthrown socket unset = absurd (unc
 met_by_no_text t kind.UncaughtInLoop uncaught many unthrown socket unset = absurd (many refl)
 met_by_no_text t kind.EndsService uncaught many unthrown socket unset = refl
 met_by_no_text t kind.EndsLoop uncaught many unthrown socket unset = refl
+met_by_no_text t kind.CallEndsLoop uncaught many unthrown socket unset = refl
 met_by_no_text t kind.Unthrown uncaught many unthrown socket unset = absurd (unthrown refl)
 met_by_no_text t kind.NothingUndone uncaught many unthrown socket unset = refl
 met_by_no_text t kind.Unsent uncaught many unthrown socket unset = refl

@@ -1,6 +1,6 @@
 -- What a process mentions at each form.
 use Rattle.std.proofs.Common.{◌≡◌, ℕ, List, [], ◌∷◌, ◌++◌, Option, Some, None, refl, ap, sym, ◌∙◌, map, flat_map, append-nil}
-use Rattle.std.specs.Prelude.{is_some}
+use Rattle.std.specs.Prelude.{is_some, option_map}
 use Rattle.jolie_ast.specs.declared.name.Name.{Name}
 use Rattle.jolie_ast.specs.declared.expression.Expr.{Expr}
 use Rattle.jolie_ast.specs.declared.expression.Path.{Path}
@@ -23,7 +23,7 @@ use Rattle.explain_notes.specs.declared.role.Role.TheVariants as role
 use Rattle.explain_notes.specs.Mentions.{Seen, mention, around_scope, around_while, in_role, kept_role, looped_role, scope_role}
 use Rattle.explain_notes.specs.Expressions.{expr_mentions, path_walked}
 use Rattle.explain_notes.specs.Statements.{assigned_mentions, begun_mentions, handler_mentions_of, if_written, received_mentions, request_mentions, stepped_mentions}
-use Rattle.explain_notes.specs.Processes.{process_level, block_mentions, process_seen}
+use Rattle.explain_notes.specs.Processes.{process_level, block_mentions, called_back, process_seen}
 use Rattle.explain_notes.specs.Parts.{after_input, asked_by, asked_mentions, process_mentions, if_mentions, otherwise_mentions, input_mentions, reply_mentions, branch_mentions, answer_mentions, handler_mentions}
 use Rattle.explain_notes.proofs.Lists.{mapped_joined}
 use Rattle.jolie_ast.proofs.Folds.{process_rolls, block_rolls, conditional_rolls, otherwise_rolls, input_rolls, reply_rolls, branch_rolls, answer_rolls, handler_rolls}
@@ -64,7 +64,7 @@ input_form_is i = process_made (Process-F.Input i) (process.rolls-Input i)
 pub choice_is : (at : ℕ) (branches : List Branch) → process_mentions (process.Choice at branches) ≡ flat_map branch_mentions branches
 choice_is at branches = process_made (Process-F.Choice at branches) (process.rolls-Choice at branches) ∙ mapped_joined branch_mentions branches
 
-pub output_is : (operation : Name) (port : Name) (value : Option Expr) (answer : Option Answer) → process_mentions (process.Output operation port value answer) ≡ mention role.SentTo port ∷ (if_written expr_mentions value ++ if_written answer_mentions answer)
+pub output_is : (operation : Name) (port : Name) (value : Option Expr) (answer : Option Answer) → process_mentions (process.Output operation port value answer) ≡ mention role.SentTo port ∷ (if_written expr_mentions value ++ called_back port (option_map answer_mentions answer))
 output_is operation port value None = process_made (Process-F.Output operation port value None) (process.rolls-Output operation port value None)
 output_is operation port value (Some it) = process_made (Process-F.Output operation port value (Some it)) (process.rolls-Output operation port value (Some it))
 

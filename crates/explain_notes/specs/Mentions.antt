@@ -28,6 +28,13 @@ word at text = record { text = text; at = at }
 abbrev pub fails_at : Bool → ℕ → Seen
 fails_at fails at = if fails then mention role.Failing (word at (codes "ExprFault")) ∷ [] else []
 
+-- the faults with which a call at a socket may come back, whatever is called there, at the place of its port
+abbrev pub calling : Name → Seen
+calling port =
+    mention role.Calling (word port.at (codes "IOException"))
+    ∷ mention role.Calling (word port.at (codes "TypeMismatch"))
+    ∷ mention role.Calling (word port.at (codes "UndeclaredFault")) ∷ []
+
 -- ---- roles
 
 -- a variable gets a value
@@ -50,10 +57,12 @@ abbrev pub is_handled : Role → Bool
 is_handled role.Handled = true
 is_handled r = false
 
--- an expression may have no value there, and no scope around it handles that yet
+-- an expression may have no value there, or a call come back with a fault, and no scope around it handles that yet
 abbrev pub is_failing : Role → Bool
 is_failing role.Failing = true
 is_failing role.FailingInLoop = true
+is_failing role.Calling = true
+is_failing role.CallingInLoop = true
 is_failing r = false
 
 -- the message of an operation is taken
@@ -74,6 +83,7 @@ looped_role r = r
 -- in a `while` that takes messages, as a service has one for message after message
 abbrev pub turned_role : Role → Role
 turned_role role.Failing = role.FailingInLoop
+turned_role role.Calling = role.CallingInLoop
 turned_role r = looped_role r
 
 -- in the braces after an input that is not answered
@@ -100,11 +110,12 @@ freed_role role.Handled = role.HandledInside
 freed_role role.Undoing = role.UndoingInside
 freed_role r = r
 
--- around a scope that handles the fault: where the loop in it is ended by ExprFault, that stays so
+-- around a scope that handles the fault: where the loop in it is ended by what has no value or by a call, that stays so
 abbrev pub handled_role : Role → Role
 handled_role role.Thrown = role.Caught
 handled_role role.ThrownInLoop = role.Caught
 handled_role role.Failing = role.FailingSafely
+handled_role role.Calling = role.FailingSafely
 handled_role r = freed_role r
 
 -- ---- mentions

@@ -11,7 +11,7 @@ use Rattle.explain_notes.specs.Services.{own_sockets, service_mentions}
 use Rattle.explain_notes.specs.declared.kind.NoteKind.{NoteKind}
 use Rattle.explain_notes.specs.declared.kind.NoteKind.TheVariants as kind
 use Rattle.explain_notes.specs.Answers.{content_names}
-use Rattle.explain_notes.specs.Rules.{is_asked, is_met, is_noted}
+use Rattle.explain_notes.specs.Rules.{is_asked, is_met, is_noted, is_sent}
 
 -- what is noted of a name
 pub record Noted : Type 0 where
@@ -58,13 +58,25 @@ unanswered_after content known asks (m ∷ ms) =
     then note kind.Unanswered m.name ∷ unanswered_after content known asks ms
     else unanswered_after content known asks ms
 
+-- the faults that may end a loop by a call: of each that is not known, where a call at one of these ports may come back
+-- with it, and which is known from there on
+abbrev pub called_after : List (List ℕ) → List (List ℕ) → Bool → Seen → List Noted
+called_after ports known there [] = []
+called_after ports known there (m ∷ ms) =
+    if is_sent m.role then called_after ports known (is_in m.name.text ports) ms
+    else if is_noted kind.CallEndsLoop m.role && there && not (is_in m.name.text known)
+    then note kind.CallEndsLoop m.name ∷ called_after ports (known ++ m.name.text ∷ []) there ms
+    else called_after ports known there ms
+
 -- the notes of a kind, by the texts that meet its names and by the operations that are content with void: where values
--- are cut, and of a socket of its own, it is noted of names that are met, otherwise of those that are not
+-- are cut, and of a socket of its own, it is noted of names that are met, otherwise of those that are not; where a call
+-- ends a loop, by the ports that are met
 abbrev pub notes_by : NoteKind → List (List ℕ) → List (List ℕ) → Seen → List Noted
 notes_by kind.TreeCut met content ms = notes_known kind.TreeCut met ms
 notes_by kind.LiteralCut met content ms = notes_known kind.LiteralCut met ms
 notes_by kind.OwnSocket met content ms = notes_known kind.OwnSocket met ms
 notes_by kind.Unanswered met content ms = unanswered_after content met false ms
+notes_by kind.CallEndsLoop met content ms = called_after met [] false ms
 notes_by k met content ms = notes_after k met ms
 
 -- ---- what meets a name
@@ -112,8 +124,8 @@ kinds_always =
 -- the kinds that are noted of a service by how its sessions are run
 abbrev pub kinds_by_sessions : Service → List NoteKind
 kinds_by_sessions s =
-    if is_concurrent (execution_of s) then kind.UncaughtInLoop ∷ kind.EndsLoop ∷ []
-    else kind.EndsService ∷ kind.EndsLoop ∷ kind.Forgotten ∷ []
+    if is_concurrent (execution_of s) then kind.UncaughtInLoop ∷ kind.EndsLoop ∷ kind.CallEndsLoop ∷ []
+    else kind.EndsService ∷ kind.EndsLoop ∷ kind.CallEndsLoop ∷ kind.Forgotten ∷ []
 
 -- what is noted of a service: of one kind after the other
 abbrev pub service_notes : Told → Service → List Noted

@@ -1,12 +1,12 @@
 -- What a process mentions.
-use Rattle.std.specs.Prelude.{[], ◌∷◌, ◌++◌, map, None, Some, unwrap_or}
+use Rattle.std.specs.Prelude.{[], ◌∷◌, ◌++◌, map, Option, None, Some, unwrap_or}
 use Rattle.jolie_ast.specs.declared.name.Name.{Name}
 use Rattle.jolie_ast.specs.declared.process.Otherwise.TheOpen.{Input-F, Process-F}
 use Rattle.jolie_ast.specs.declared.process.Block.{Block}
 use Rattle.jolie_ast.specs.Folds.{ProcessResults, ProcessFold, level, all_are, else_or, fold_block}
 use Rattle.explain_notes.specs.declared.role.Role.TheVariants as role
-use Rattle.explain_notes.specs.Mentions.{Seen, mention, around_scope, around_while, in_role, kept_role, looped_role}
-use Rattle.explain_notes.specs.Mentions.{scope_role}
+use Rattle.explain_notes.specs.Mentions.{Seen, mention, around_scope, around_while, calling, in_role, kept_role}
+use Rattle.explain_notes.specs.Mentions.{looped_role, scope_role}
 use Rattle.explain_notes.specs.Expressions.{expr_mentions, joined, path_walked}
 use Rattle.explain_notes.specs.Statements.{assigned_mentions, begun_mentions, handler_mentions_of, if_written}
 use Rattle.explain_notes.specs.Statements.{received_mentions, request_mentions, stepped_mentions}
@@ -15,6 +15,11 @@ use Rattle.explain_notes.specs.Statements.{received_mentions, request_mentions, 
 -- what a request with it mentions, by its operation and what it takes
 abbrev pub process_results : ProcessResults
 process_results = record (all_are Seen) { input = Seen → Seen; reply = Name → Seen → Seen }
+
+-- what a call with an answer mentions: the faults that it may come back with, and what the answer mentions
+abbrev pub called_back : Name → Option Seen → Seen
+called_back port None = []
+called_back port (Some answer) = calling port ++ answer
 
 -- one level of a process, with what its parts mention; nothing stands after an input that stands alone
 abbrev pub process_level : level process_results Process-F → Seen
@@ -28,7 +33,7 @@ process_level (Process-F.For at path first test stepped step body) =
 process_level (Process-F.Input input) = input []
 process_level (Process-F.Choice at branches) = joined branches
 process_level (Process-F.Output operation port value answer) =
-    mention role.SentTo port ∷ (if_written expr_mentions value ++ unwrap_or answer [])
+    mention role.SentTo port ∷ (if_written expr_mentions value ++ called_back port answer)
 process_level (Process-F.Scope at name body) = mention (scope_role body) name ∷ around_scope body
 process_level (Process-F.Install at handlers) = joined handlers
 process_level (Process-F.Throw at fault value) = mention role.Thrown fault ∷ if_written expr_mentions value

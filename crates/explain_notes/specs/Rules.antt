@@ -13,6 +13,7 @@ is_noted kind.Uncaught role.Rethrown = true
 is_noted kind.UncaughtInLoop role.ThrownInLoop = true
 is_noted kind.EndsService role.ThrownInLoop = true
 is_noted kind.EndsLoop role.FailingInLoop = true
+is_noted kind.CallEndsLoop role.CallingInLoop = true
 is_noted kind.Unthrown role.Handled = true
 is_noted kind.Unthrown role.HandledInside = true
 is_noted kind.NothingUndone role.Compensated = true
@@ -43,6 +44,7 @@ is_met kind.Unthrown role.Caught = true
 is_met kind.Unthrown r = is_free r
 is_met kind.NothingUndone role.Undone = true
 is_met kind.Unsent role.SentTo = true
+is_met kind.CallEndsLoop role.Elsewhere = true
 is_met kind.Unset role.Scope = true
 is_met kind.Unset role.Undone = true
 is_met kind.Unset r = is_set r
@@ -56,6 +58,11 @@ is_met kind.Unanswered role.Set = true
 is_met kind.Unanswered role.Kept = true
 is_met kind.Unanswered role.Received = true
 is_met k r = false
+
+-- a port that something is sent to
+abbrev pub is_sent : Role → Bool
+is_sent role.SentTo = true
+is_sent r = false
 
 -- an operation whose answer is a variable
 abbrev pub is_asked : Role → Bool

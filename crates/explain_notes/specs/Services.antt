@@ -11,10 +11,19 @@ use Rattle.explain_notes.specs.declared.role.Role.TheVariants as role
 use Rattle.explain_notes.specs.Mentions.{Seen, mention, word, around_scope}
 use Rattle.explain_notes.specs.Processes.{block_mentions}
 
+-- a location is one of a socket
+abbrev pub is_socket : List ℕ → Bool
+is_socket location = starts_with nat_eq location (codes "socket://")
+
+-- the location of an output port, and its name once more where that is a socket
+abbrev pub dialled_mentions : Port → Seen
+dialled_mentions port =
+    mention role.Dialled (word port.location.at port.location.text)
+    ∷ (if is_socket port.location.text then mention role.Elsewhere port.name ∷ [] else [])
+
 -- what an output port mentions: its name and its location
 abbrev pub port_mentions : Port → Seen
-port_mentions port =
-    mention role.Port port.name ∷ mention role.Dialled (word port.location.at port.location.text) ∷ []
+port_mentions port = mention role.Port port.name ∷ dialled_mentions port
 
 -- what a clause mentions: its output port, or what stands in its braces; `main` is the outermost scope
 abbrev pub clause_mentions : Clause → Seen
@@ -28,10 +37,6 @@ abbrev pub service_mentions : Service → Seen
 service_mentions s = flat_map clause_mentions s.clauses
 
 -- ---- the sockets of a file
-
--- a location is one of a socket
-abbrev pub is_socket : List ℕ → Bool
-is_socket location = starts_with nat_eq location (codes "socket://")
 
 -- the location of a port, where it is one of a socket
 abbrev pub socket_of : Port → List (List ℕ)

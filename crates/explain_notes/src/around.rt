@@ -244,6 +244,7 @@ fn role_handled(role: Role) -> Role
         Role::Thrown => Role::Caught,
         Role::ThrownInLoop => Role::Caught,
         Role::Failing => Role::FailingSafely,
+        Role::Calling => Role::FailingSafely,
         _ => role.freed(),
     }
 }

@@ -15,6 +15,9 @@ pub enum NoteKind {
     EndsService,
     /// An expression that may have no value, in a `while` that takes messages, of which no scope handles that.
     EndsLoop,
+    /// A fault with which a call may come back from a socket, in a `while` that takes messages, of which no scope handles
+    /// it.
+    CallEndsLoop,
     /// A handler of a fault that nothing throws.
     Unthrown,
     /// A scope that is compensated, where no scope of this name has a handler under `this`.
@@ -47,6 +50,7 @@ impl NoteKind {
             NoteKind::UncaughtInLoop => matches!(role, Role::ThrownInLoop),
             NoteKind::EndsService => matches!(role, Role::ThrownInLoop),
             NoteKind::EndsLoop => matches!(role, Role::FailingInLoop),
+            NoteKind::CallEndsLoop => matches!(role, Role::CallingInLoop),
             NoteKind::Unthrown => matches!(role, Role::Handled | Role::HandledInside),
             NoteKind::NothingUndone => matches!(role, Role::Compensated),
             NoteKind::Unsent => matches!(role, Role::Port),
@@ -69,6 +73,7 @@ impl NoteKind {
             NoteKind::UncaughtInLoop => false,
             NoteKind::EndsService => false,
             NoteKind::EndsLoop => false,
+            NoteKind::CallEndsLoop => matches!(role, Role::Elsewhere),
             NoteKind::Unthrown => throws(role),
             NoteKind::NothingUndone => matches!(role, Role::Undone),
             NoteKind::Unsent => matches!(role, Role::SentTo),
@@ -118,4 +123,11 @@ pub fn is_asked(role: Role) -> bool
     ensures { result ≡ spec.is_asked role }
 {
     matches!(role, Role::Asked)
+}
+
+/// A port that something is sent to.
+pub fn is_sent(role: Role) -> bool
+    ensures { result ≡ spec.is_sent role }
+{
+    matches!(role, Role::SentTo)
 }

@@ -43,6 +43,13 @@ impl<'a> Note<'a> {
         self.kind
     }
 
+    /// The text of the name.
+    pub fn text(&self) -> &'a str
+        ensures { result.now ≡ self.now.name.text }
+    {
+        self.text
+    }
+
     /// The place of the name in the file.
     pub fn at(&self) -> u32
         ensures { result ≡ self.now.name.at }

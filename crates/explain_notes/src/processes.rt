@@ -1,11 +1,11 @@
 //! What processes mention.
 
-ghost use Rattle.std.specs.Prelude.{◌≡◌, [], ◌∷◌, ◌++◌, OnOk, flat_map, is_some, map};
+ghost use Rattle.std.specs.Prelude.{◌≡◌, [], ◌∷◌, ◌++◌, OnOk, flat_map, is_some, map, option_map};
 ghost use Rattle.explain_notes.specs.declared.role.Role.TheVariants as role;
-ghost use Rattle.explain_notes.specs.Mentions.{around_scope, around_while, in_role, kept_role, looped_role, mention, scope_role};
+ghost use Rattle.explain_notes.specs.Mentions.{around_scope, around_while, calling, in_role, kept_role, looped_role, mention, scope_role};
 ghost use Rattle.explain_notes.specs.Expressions.{expr_mentions};
 ghost use Rattle.explain_notes.specs.Statements.{answered_role, begun_mentions, handler_mentions_of, if_written, received_mentions, request_mentions, stepped_mentions};
-ghost use Rattle.explain_notes.specs.Processes.{block_mentions};
+ghost use Rattle.explain_notes.specs.Processes.{block_mentions, called_back};
 ghost use Rattle.explain_notes.specs.Parts.{after_input, answer_mentions, asked_mentions, branch_mentions, handler_mentions, if_mentions, input_mentions, otherwise_mentions, process_mentions, reply_mentions};
 
 use crate::list::Mentions;
@@ -122,10 +122,10 @@ impl<'a> Mentions<'a> {
     ) -> Result<(), AllocError>
         ensures { OnOk result (self.new ≡ self.old
             ++ mention role.SentTo port.now ∷
-            (if_written expr_mentions value.now ++ if_written answer_mentions answer.now)) }
+            (if_written expr_mentions value.now ++ called_back port.now (option_map answer_mentions answer.now))) }
     {
         self.sent(port, value)?;
-        self.optional_answer(answer)
+        self.called_back(answer, port)
     }
 
     /// What stands in a loop.
@@ -251,12 +251,17 @@ impl<'a> Mentions<'a> {
         self.add_kept(&inner)
     }
 
+    /// What a call at a port awaits, if it does: the faults with which it may come back, and its answer.
     #[cycle(process)]
-    fn optional_answer(&mut self, answer: &'a Option<Answer>) -> Result<(), AllocError>
-        ensures { OnOk result (self.new ≡ self.old ++ if_written answer_mentions answer.now) }
+    #[tactic(auto, using(crate::proofs::Lists::behind_two))]
+    fn called_back(&mut self, answer: &'a Option<Answer>, port: &Name) -> Result<(), AllocError>
+        ensures { OnOk result (self.new ≡ self.old ++ called_back port.now (option_map answer_mentions answer.now)) }
     {
         match answer {
-            Some(answer) => self.answer(answer),
+            Some(answer) => {
+                self.calling(port)?;
+                self.answer(answer)
+            }
             None => Ok(()),
         }
     }
@@ -347,6 +352,16 @@ impl<'a> Mentions<'a> {
     {
         self.add(Role::SentTo, port)?;
         self.value(value)
+    }
+
+    /// The faults with which a call at a socket may come back, at the place of its port.
+    fn calling(&mut self, port: &Name) -> Result<(), AllocError>
+        ensures { OnOk result (self.new ≡ self.old ++ calling port.now) }
+    {
+        self.put(Role::Calling, port.at, "IOException")?;
+        self.put(Role::Calling, port.at, "TypeMismatch")?;
+        self.put(Role::Calling, port.at, "UndeclaredFault")?;
+        Ok(())
     }
 
     /// A fault that is thrown.

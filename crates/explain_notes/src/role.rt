@@ -26,8 +26,12 @@ pub enum Role {
     Failing,
     /// The same in a `while` that takes messages, of which no scope handles it.
     FailingInLoop,
-    /// The same where something ends it.
+    /// One of the last two or of the next two, where something ends it.
     FailingSafely,
+    /// A fault with which a call may come back from a socket.
+    Calling,
+    /// The same in a `while` that takes messages, of which no scope handles it.
+    CallingInLoop,
     /// An operation whose message is taken.
     Taken,
     /// An operation whose body sets a variable that is answered, or should.
@@ -50,6 +54,8 @@ pub enum Role {
     Port,
     /// The location of an output port.
     Dialled,
+    /// An output port whose location is a socket.
+    Elsewhere,
     /// A port that something is sent to.
     SentTo,
     /// A fault that is thrown.
@@ -88,11 +94,15 @@ impl Role {
         matches!(self, Role::Handled)
     }
 
-    /// Whether an expression may have no value there, and no scope around it handles that yet.
+    /// Whether an expression may have no value there, or a call come back with a fault, and no scope around it handles
+    /// that yet.
     pub(crate) fn is_failing(self) -> bool
         ensures { result ≡ spec.is_failing self }
     {
-        matches!(self, Role::Failing | Role::FailingInLoop)
+        matches!(
+            self,
+            Role::Failing | Role::FailingInLoop | Role::Calling | Role::CallingInLoop
+        )
     }
 
     /// Whether the message of an operation is taken.
@@ -125,6 +135,7 @@ impl Role {
     {
         match self {
             Role::Failing => Role::FailingInLoop,
+            Role::Calling => Role::CallingInLoop,
             _ => self.in_loop(),
         }
     }

@@ -1,13 +1,13 @@
 //! The notes of one kind.
 
-ghost use Rattle.std.specs.Prelude.{◌≡◌, ◌++◌, OnOk, false};
+ghost use Rattle.std.specs.Prelude.{◌≡◌, [], ◌++◌, OnOk, false};
 ghost use Rattle.explain_notes.specs.Mentions.{names_in};
 ghost use Rattle.explain_notes.specs.Notes as spec;
 ghost use Rattle.explain_notes.specs.Rules.{is_met};
 
 use crate::declared::texts_met;
 use crate::facts::Facts;
-use crate::kind::{NoteKind, is_asked};
+use crate::kind::{NoteKind, is_asked, is_sent};
 use crate::list::Mention;
 use crate::note::Note;
 use check_base::Names;
@@ -25,12 +25,13 @@ pub fn add_notes<'a>(
 {
     let mut met = texts_met(alloc, kind, facts)?;
     add_met(kind, mentions, &mut met)?;
-    add_by(kind, &mut met, facts.content(), mentions, notes)
+    add_by(alloc, kind, &mut met, facts.content(), mentions, notes)
 }
 
 /// The notes of a kind, by the texts that meet its names.
 #[tactic(auto, using(crate::proofs::ByKind::of_the_unmet))]
 fn add_by<'a>(
+    alloc: Global,
     kind: NoteKind,
     met: &mut Names<'a>,
     content: &Names<'a>,
@@ -44,6 +45,7 @@ fn add_by<'a>(
         NoteKind::LiteralCut => add_known(kind, met, mentions, notes),
         NoteKind::OwnSocket => add_known(kind, met, mentions, notes),
         NoteKind::Unanswered => add_unanswered_after(content, met, mentions, notes),
+        NoteKind::CallEndsLoop => add_called_after(alloc, met, mentions, notes),
         _ => add_unknown(kind, met, mentions, notes),
     }
 }
@@ -115,6 +117,33 @@ fn add_unanswered_after<'a>(
             asks = !content.has(mention.text());
         } else if NoteKind::Unanswered.is_of(mention.role()) && asks && !known.has(mention.text()) {
             notes.push(Note::new(NoteKind::Unanswered, mention))?;
+        }
+    }
+    Ok(())
+}
+
+/// The faults that may end a loop by a call at one of these ports: of each that is not known, which is known from there
+/// on.
+fn add_called_after<'a>(
+    alloc: Global,
+    ports: &Names<'a>,
+    mentions: &[Mention<'a>],
+    notes: &mut Vec<Note<'a>>,
+) -> Result<(), AllocError>
+    ensures { OnOk result (notes.new.items ≡ notes.old.items
+        ++ spec.called_after ports.now [] false mentions.now) }
+{
+    let mut known = Names::new(alloc);
+    let mut there = false;
+    for mention in mentions {
+        if is_sent(mention.role()) {
+            there = ports.has(mention.text());
+        } else if NoteKind::CallEndsLoop.is_of(mention.role())
+            && there
+            && !known.has(mention.text())
+        {
+            known.add(mention.text())?;
+            notes.push(Note::new(NoteKind::CallEndsLoop, mention))?;
         }
     }
     Ok(())

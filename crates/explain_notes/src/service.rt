@@ -28,12 +28,17 @@ const ALWAYS: [NoteKind; 10] = [
 ];
 
 /// The kinds that are noted of a service whose sessions run beside each other.
-const OF_MANY: [NoteKind; 2] = [NoteKind::UncaughtInLoop, NoteKind::EndsLoop];
+const OF_MANY: [NoteKind; 3] = [
+    NoteKind::UncaughtInLoop,
+    NoteKind::EndsLoop,
+    NoteKind::CallEndsLoop,
+];
 
 /// The kinds that are noted of a service of one session.
-const OF_ONE: [NoteKind; 3] = [
+const OF_ONE: [NoteKind; 4] = [
     NoteKind::EndsService,
     NoteKind::EndsLoop,
+    NoteKind::CallEndsLoop,
     NoteKind::Forgotten,
 ];
 

@@ -3,10 +3,11 @@
 ghost use Rattle.std.specs.Prelude.{◌≡◌, ◌++◌, IfOk, OnOk};
 ghost use Rattle.explain_notes.specs.Mentions.{around_scope};
 ghost use Rattle.explain_notes.specs.Processes.{block_mentions};
-ghost use Rattle.explain_notes.specs.Services.{clause_mentions, port_mentions, service_mentions};
+ghost use Rattle.explain_notes.specs.Services.{clause_mentions, dialled_mentions, port_mentions, service_mentions};
 
 use crate::list::Mentions;
 use crate::role::Role;
+use crate::sockets::is_socket;
 use jolie_ast::{Block, Clause, Port, Service};
 use std::alloc::{AllocError, Global};
 
@@ -42,7 +43,19 @@ impl<'a> Mentions<'a> {
         ensures { OnOk result (self.new ≡ self.old ++ port_mentions port.now) }
     {
         self.add(Role::Port, &port.name)?;
-        self.put(Role::Dialled, port.location.at, port.location.text.as_str())
+        self.dialled(port)
+    }
+
+    /// The location of an output port, and its name once more where that is a socket.
+    #[tactic(auto, using(crate::proofs::Lists::behind_one))]
+    fn dialled(&mut self, port: &'a Port) -> Result<(), AllocError>
+        ensures { OnOk result (self.new ≡ self.old ++ dialled_mentions port.now) }
+    {
+        self.put(Role::Dialled, port.location.at, port.location.text.as_str())?;
+        if !is_socket(port.location.text.as_str()) {
+            return Ok(());
+        }
+        self.add(Role::Elsewhere, &port.name)
     }
 
     /// What stands in `main`, which is the outermost scope.

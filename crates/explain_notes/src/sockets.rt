@@ -53,7 +53,7 @@ fn add_port<'a>(port: &'a Port, names: &mut Names<'a>) -> Result<(), AllocError>
 }
 
 /// Whether a location is one of a socket.
-fn is_socket(location: &str) -> bool
+pub(crate) fn is_socket(location: &str) -> bool
     ensures { result ≡ spec.is_socket location.now }
 {
     location.as_bytes().starts_with("socket://".as_bytes())

@@ -117,6 +117,10 @@ is_brace _ = false
 abbrev pub is_brace_alone : List Hint → Bool
 is_brace_alone hints = length hints == 1 && list_any is_brace hints
 
+-- `(` may stand, and nothing else
+abbrev pub is_parenthesis_alone : List Hint → Bool
+is_parenthesis_alone hints = length hints == 1 && list_any opens hints
+
 -- `{` stands there: where a statement may end and `(` go on, after a protocol, where a type stands, or for a `:`
 abbrev pub advised_of_brace : List Hint → Option Advice
 advised_of_brace hints =
@@ -138,11 +142,12 @@ advised_of_statement rest = if begins_statement rest then Some advice.Separator 
 abbrev pub calls : List ℕ → Bool
 calls rest = starts_with nat_eq rest (codes "(") || starts_with nat_eq rest (codes "@")
 
--- another token stands there, where no statement ends: what is from elsewhere, or one in the place of a `{`
+-- another token stands there, where no statement ends: what is from elsewhere, or one in the place of a `{` or `(`
 abbrev pub advised_of_rest : List ℕ → List Hint → Option Advice
 advised_of_rest rest hints =
     if comes_from_elsewhere hints rest then Some advice.Elsewhere
     else if is_brace_alone hints then Some advice.Block
+    else if is_parenthesis_alone hints then Some advice.Parens
     else None
 
 -- a token stands there that is no sign between clauses and no `void`: after a value a call or `?`, or a statement

@@ -14,8 +14,8 @@ abbrev pub note_words : NoteKind → List ℕ
 note_words kind.Uncaught = codes "nothing catches this fault, and no `throws` names it"
 note_words kind.UncaughtInLoop = codes "nothing catches this fault, and no `throws` names it"
 note_words kind.EndsService = codes "nothing catches this fault: it ends the loop and the service"
-note_words kind.EndsLoop =
-    codes "no scope of the loop handles ExprFault: where this or another expression has no value, the loop ends"
+note_words kind.EndsLoop = codes "where this or another expression has no value, the loop ends"
+note_words kind.CallEndsLoop = codes "where this or another call comes back with it, the loop ends"
 note_words kind.Unthrown = codes "nothing throws the fault of this handler"
 note_words kind.NothingUndone = codes "no scope of this name has a handler under `this`: nothing is undone"
 note_words kind.Unsent = codes "nothing is sent to this port"
@@ -43,9 +43,22 @@ words_at k rest =
     if is_default k rest then codes "`default` is the name of a fault here, and nothing throws it: name each fault"
     else note_words k
 
+-- it is noted of a fault that ends a loop
+abbrev pub is_of_loop : NoteKind → Bool
+is_of_loop kind.EndsLoop = true
+is_of_loop kind.CallEndsLoop = true
+is_of_loop k = false
+
+-- what a note says, by the text from its place on: of a fault that ends a loop its name first
+abbrev pub note_says : Noted → List ℕ → List ℕ
+note_says n rest =
+    if is_of_loop n.kind
+    then codes "no scope of the loop handles " ++ (n.name.text ++ (codes ": " ++ words_at n.kind rest))
+    else words_at n.kind rest
+
 -- where a note is and what it says, the line of the place, and its mark
 abbrev pub note_lines : List ℕ → List ℕ → Noted → List ℕ
-note_lines file text n = pointed file text n.name.at (codes "note: " ++ words_at n.kind (drop n.name.at text))
+note_lines file text n = pointed file text n.name.at (codes "note: " ++ note_says n (drop n.name.at text))
 
 -- `ok`, and the lines of each note
 abbrev pub noted_text : List ℕ → List ℕ → List Noted → List ℕ

@@ -113,6 +113,9 @@ advice_words advice.Void = codes "`void` is a type and no value: `is_defined(x)`
 advice_words advice.ByteOrderMark = codes "this is a byte order mark: save the file as UTF-8 without one"
 advice_words advice.Block =
     codes "braces stand here: `if (x) { .. }`, `while (x) { .. }`, `[ go(x) ] { .. }`; a service has no parameters"
+advice_words advice.Parens =
+    codes "parentheses stand here: `if (x) { .. }`, `op@Port(x)(y)`, `go(int)(int)`; "
+    ++ codes "the faults of `throws` have no `,` between them"
 advice_words advice.Colon =
     codes "`:` stands between a word and what it is: `execution: concurrent`, `a: int`, `OneWay: go(int)`"
 advice_words advice.Call =

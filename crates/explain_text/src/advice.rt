@@ -44,6 +44,8 @@ pub enum Advice {
     ByteOrderMark,
     /// Another token stands where braces alone may.
     Block,
+    /// Another token stands where parentheses alone may.
+    Parens,
     /// A `{` stands where a `:` may.
     Colon,
     /// A `(` or `@` stands after a value.
@@ -78,6 +80,8 @@ impl Advice {
                 "this is a byte order mark: save the file as UTF-8 without one",
             Advice::Block =>
                 "braces stand here: `if (x) { .. }`, `while (x) { .. }`, `[ go(x) ] { .. }`; a service has no parameters",
+            Advice::Parens =>
+                "parentheses stand here: `if (x) { .. }`, `op@Port(x)(y)`, `go(int)(int)`; the faults of `throws` have no `,` between them",
             Advice::Colon =>
                 "`:` stands between a word and what it is: `execution: concurrent`, `a: int`, `OneWay: go(int)`",
             Advice::Call =>
@@ -220,7 +224,7 @@ fn advised_of_token(rest: &[u8], hints: &[Hint]) -> Option<Advice>
     advised_of_rest(rest, hints)
 }
 
-/// What is advised where no statement ends: of what is from elsewhere, or of a token in the place of a `{`.
+/// What is advised where no statement ends: of what is from elsewhere, or of a token in the place of a `{` or `(`.
 fn advised_of_rest(rest: &[u8], hints: &[Hint]) -> Option<Advice>
     ensures { result ≡ spec.advised_of_rest rest.now hints.now }
 {
@@ -229,6 +233,9 @@ fn advised_of_rest(rest: &[u8], hints: &[Hint]) -> Option<Advice>
     }
     if is_brace_alone(hints) {
         return Some(Advice::Block);
+    }
+    if is_parenthesis_alone(hints) {
+        return Some(Advice::Parens);
     }
     None
 }
@@ -245,6 +252,13 @@ fn is_brace_alone(hints: &[Hint]) -> bool
     ensures { result ≡ spec.is_brace_alone hints.now }
 {
     hints.len() == 1 && has_brace(hints)
+}
+
+/// Whether `(` may stand, and nothing else.
+fn is_parenthesis_alone(hints: &[Hint]) -> bool
+    ensures { result ≡ spec.is_parenthesis_alone hints.now }
+{
+    hints.len() == 1 && has_opening(hints)
 }
 
 /// Whether `{` is among hints.

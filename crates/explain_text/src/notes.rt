@@ -64,16 +64,27 @@ fn add_note(
     ensures { OnOk result (bytes.new.items ≡ bytes.old.items ++ spec.note_lines file.now text.now note.now) }
 {
     let at = note.at() as usize;
-    let said = said(alloc, note.kind(), behind(text, at))?;
+    let said = said(alloc, note, behind(text, at))?;
     add_pointed(alloc, file, text, at, said.as_str(), bytes)
 }
 
-/// What a note says of its place, by the text from there on.
-fn said(alloc: Global, kind: NoteKind, rest: &[u8]) -> Result<String, AllocError>
-    ensures { IfOk result (λ said. string_bytes said ≡ codes "note: " ++ spec.words_at kind rest.now) }
+/// What a note says of its place, by the text from there on: of a fault that ends a loop its name first.
+fn said(alloc: Global, note: &Note, rest: &[u8]) -> Result<String, AllocError>
+    ensures { IfOk result (λ said. string_bytes said ≡ codes "note: " ++ spec.note_says note.now rest.now) }
 {
-    let words = words_at(kind, rest);
-    format!(in alloc; "note: {words}")
+    let words = words_at(note.kind(), rest);
+    if !is_of_loop(note.kind()) {
+        return format!(in alloc; "note: {words}");
+    }
+    let fault = note.text();
+    format!(in alloc; "note: no scope of the loop handles {fault}: {words}")
+}
+
+/// Whether it is noted of a fault that ends a loop.
+fn is_of_loop(kind: NoteKind) -> bool
+    ensures { result ≡ spec.is_of_loop kind }
+{
+    matches!(kind, NoteKind::EndsLoop | NoteKind::CallEndsLoop)
 }
 
 /// What a person reads of a note, by the text from its place on.
@@ -101,9 +112,8 @@ fn words(kind: NoteKind) -> &'static str
         NoteKind::Uncaught => "nothing catches this fault, and no `throws` names it",
         NoteKind::UncaughtInLoop => "nothing catches this fault, and no `throws` names it",
         NoteKind::EndsService => "nothing catches this fault: it ends the loop and the service",
-        NoteKind::EndsLoop => {
-            "no scope of the loop handles ExprFault: where this or another expression has no value, the loop ends"
-        }
+        NoteKind::EndsLoop => "where this or another expression has no value, the loop ends",
+        NoteKind::CallEndsLoop => "where this or another call comes back with it, the loop ends",
         NoteKind::Unthrown => "nothing throws the fault of this handler",
         NoteKind::NothingUndone => {
             "no scope of this name has a handler under `this`: nothing is undone"
