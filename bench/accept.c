@@ -1,5 +1,5 @@
-/* An accept4 that fails with the numbers that ERRORS names, as "24 9", one at each call, and accepts behind the last:
-   for doors.sh, preloaded. */
+/* An accept4 that fails with the numbers that ERRORS names, as "24 9", one at each call, and accepts where the number
+   is 0 and after the last: for doors.sh, preloaded. */
 #define _GNU_SOURCE
 #include <dlfcn.h>
 #include <errno.h>
@@ -12,11 +12,12 @@ static const char *left;
 
 static int next_error(void) {
     if (!left) {
-        left = getenv("ERRORS");
+        const char *errors = getenv("ERRORS");
+        left = errors ? errors : "";
     }
-    char *behind = NULL;
-    long error = left ? strtol(left, &behind, 10) : 0;
-    left = error ? behind : "";
+    char *rest = NULL;
+    long error = strtol(left, &rest, 10);
+    left = rest;
     return (int)error;
 }
 

@@ -49,7 +49,7 @@ fn main(rt: HostRuntime) -> anyhow::Result<()> {
 fn patience() -> Patience {
     Patience {
         idle: Duration::from_millis(600),
-        request: Duration::from_millis(1_200),
+        request: Duration::from_millis(3_000),
         answer: Duration::from_millis(900),
         rest: Duration::from_millis(400),
     }

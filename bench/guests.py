@@ -17,7 +17,7 @@ import threading
 import time
 
 # How many seconds the program waits: for a next request, for the rest of one, for an answer to be taken, in a rest.
-IDLE, REQUEST, ANSWER, REST = 0.6, 1.2, 0.9, 0.4
+IDLE, REQUEST, ANSWER, REST = 0.6, 3.0, 0.9, 0.4
 
 # What is allowed beyond a time; that a connection is late is found after a rest at most.
 LATE = 0.25
@@ -305,7 +305,7 @@ def readiness(rows, house, port):
         said = [house.say("look") for _ in range(len(word) // 64 + 1)]
         rows.row("what came before it", "".join(text.removeprefix("read ") for text in said), word)
         rows.row("and no more", house.say("look"), "nothing yet")
-    for _ in range(5):
+    for _ in range(3):
         guest.send(b"!", socket.MSG_OOB)
         time.sleep(0.05)
         rows.row("an urgent byte is not read", house.say("look"), "nothing yet")
@@ -338,7 +338,8 @@ FAULTS = [errno.EBADF, errno.ENOTSOCK, errno.EINVAL, errno.EFAULT, errno.EACCES,
 def failing_accepts(rows, program, preloaded):
     """Accepts that fail by each of these numbers."""
     wants = [number for number in WANTS for _ in range(2)]
-    errors = GONE + wants + GONE + [errno.ECONNABORTED] * MOST_GONE
+    # Where the number is 0 the system is asked.
+    errors = GONE + [0] + wants + GONE + [0] + [errno.ECONNABORTED] * MOST_GONE
     house = House(program, LD_PRELOAD=preloaded, ERRORS=" ".join(map(str, errors)))
     port = free_port()
     house.say(f"open socket://127.0.0.1:{port}")
