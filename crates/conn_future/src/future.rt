@@ -1,5 +1,5 @@
 //! A connection as a future, which gives the bytes that passed on it.
-ghost use Rattle.std.specs.Prelude.{◌≡◌, ◌⊎◌, IfOk};
+ghost use Rattle.std.specs.Prelude.{◌≡◌, ◌⊎◌, [], IfOk};
 ghost use Rattle.futures.specs.Task.{Covers, Keeps};
 ghost use Rattle.futures.specs.Poll.{IfReady, OnPending};
 ghost use Rattle.outside_polling.specs.Polls.{once_more};
@@ -24,6 +24,9 @@ impl<W: PollWire + Drop> Future for ConnTask<W> {
         ensures traffic { IfReady result (λ gave. IfOk gave (λ traffic. Gives
             (seen self.old.kept (W.told self.old.wire))
             (W.told self.new.wire) traffic.read.items traffic.written.items)) }
+        // What it gave is not kept.
+        ensures none_left { IfReady result (λ gave. IfOk gave (λ _.
+            (self.new.kept.read.items ≡ []) × (self.new.kept.written.items ≡ []))) }
         ensures registered { OnPending result (Covers cx.new (λ _. ⊥)) }
         ensures kept { Keeps cx.old cx.new }
     {

@@ -112,10 +112,12 @@ impl Kept {
         None
     }
 
-    /// Takes out the bytes that passed.
+    /// Takes out the bytes that passed, so that none are left.
     pub(crate) fn take_traffic(&mut self) -> Traffic
         ensures read { result.read.items ≡ self.old.read.items }
         ensures written { result.written.items ≡ self.old.written.items }
+        ensures none_read { self.new.read.items ≡ [] }
+        ensures none_written { self.new.written.items ≡ [] }
         ensures next { self.new.next ≡ self.old.next }
     {
         Traffic {

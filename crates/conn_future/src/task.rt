@@ -117,17 +117,19 @@ impl<W: PollWire> ConnTask<W> {
         self.kept.say(said);
     }
 
-    /// Takes out the bytes that passed.
+    /// Takes out the bytes that passed, so that none are left.
     pub(crate) fn take_traffic(&mut self) -> Traffic
         ensures read { result.read.items ≡ self.old.kept.read.items }
         ensures written { result.written.items ≡ self.old.kept.written.items }
+        ensures none_read { self.new.kept.read.items ≡ [] }
+        ensures none_written { self.new.kept.written.items ≡ [] }
         ensures wire { self.new.wire ≡ self.old.wire }
         ensures next { self.new.kept.next ≡ self.old.kept.next }
     {
         self.kept.take_traffic()
     }
 
-    /// The bytes that passed, but for those that the future gave, and the wire, which is closed.
+    /// The bytes that passed and that the future has not given, and the wire, which is closed.
     pub fn into_parts(self) -> (Traffic, W)
         ensures read { result.0.read.items ≡ self.kept.read.items }
         ensures written { result.0.written.items ≡ self.kept.written.items }

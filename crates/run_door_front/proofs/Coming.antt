@@ -31,7 +31,7 @@ nothing_yet (Some bytes) h = inr (ap Some h)
 
 new_line : (line : WireTold) → IsFresh line → IsNewLine line
 new_line line f = record {
-  unread = nothing_yet line.read f.nothing_read;
+  nothing_read = nothing_yet line.read f.nothing_read;
   unwritten = nothing_yet line.written f.unwritten;
   read_unfailed = f.read_unfailed;
   write_unfailed = f.write_unfailed;

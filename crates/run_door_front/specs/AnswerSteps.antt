@@ -60,14 +60,14 @@ pub record IsTextOf (parts : ProgramParts) (told : Told) (link : ClientTold) (te
   pub pending : link.pending ≡ Some (record { place = told.place; read = read })
   pub sent : text ≡ response_told parts (came_for link.service read) told.outcomes
 
--- A connection that pending an answer was told a text.
+-- A connection that owed an answer was told a text.
 pub record TellsText (text : Option (List ℕ)) (before now : Seen) : Type 0 where
   pub owing : stage_of before.kept.next ≡ Stages.Owes
   pub writes : stage_of now.kept.next ≡ Stages.Writes
   pub talks : (first : WireTold) (bodies : List (List ℕ)) (texts : List (Option (List ℕ)))
       → IsTalking first before bodies texts → IsTalking first now bodies (texts ++ text ∷ [])
 
--- A connection that pending the answer of a place was told it, and owes nothing more.
+-- A connection that owed the answer of a place was told it, and owes nothing more.
 pub record HasTold (parts : ProgramParts) (told : Told) (before now : ClientTold) : Type 0 where
   pub text : Option (List ℕ)
   pub of_place : IsTextOf parts told before text

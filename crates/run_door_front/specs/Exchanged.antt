@@ -124,8 +124,8 @@ pub record HadNoAnswer (d : Exchange) (k : ℕ) : Type 0 where
   pub last : suc asked.request ≡ count_by (is_of k) d.received.asked
   pub untold : list_any (λ (t : Told). nat_eq place t.place) (take d.received.seen d.sent.told) ≡ false
 
--- When the front was asked last, connection k paused so: its last request had no answer, its wire has answered that it
--- can move nothing yet, or it is over.
+-- When the front was asked last, connection k paused so: its last request had no answer, its wire has answered once, at
+-- some time, that it can move nothing yet, or it is over.
 abbrev pub WasPaused : Exchange → ℕ → Pause → ClientTold → Type 0
 WasPaused d k for_answer link = HadNoAnswer d k
 WasPaused d k for_wire link = 0 < link.waits

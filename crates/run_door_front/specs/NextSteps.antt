@@ -37,7 +37,7 @@ pub record GoesOn (before now : ListenerTold) : Type 0 where
   pub waits : HasNotFallen before.door.waits now.door.waits
   pub rests : HasNotFallen before.door.rests now.door.rests
 
--- nobody comes at a door: it has ended, or it was tried once more
+-- nobody comes at a door: it has ended, or it answered once more that nobody has come yet
 abbrev pub IsTried : ListenerTold → ListenerTold → Type 0
 IsTried before now = (has_ended now.door ≡ true) ⊎ (added before.door.waits 1 ≤ now.door.waits)
 
@@ -121,7 +121,8 @@ CameInOrder [] links = links ≡ []
 CameInOrder (d ∷ ds) links = (here : List ClientTold) × (others : List ClientTold) × (links ≡ here ++ others)
     × (list_all (λ link. came_by link d) here ≡ true) × CameInOrder ds others
 
--- A connection came at one of these doors, when nobody came any more at each of those before it in the text.
+-- A connection came at one of these doors. Each of those before it in the text has ended by now, or it answered once more
+-- since that nobody has come yet: before the connection came or after it.
 abbrev pub CameInTurn : List ListenerTold → List ListenerTold → ClientTold → Type 0
 CameInTurn [] qs link = ⊥
 CameInTurn (p ∷ ps) [] link = ⊥
@@ -345,8 +346,8 @@ going doors connections opened queue traffics = record {
   traffics = traffics;
 }
 
--- Doors and connections went on while nothing was posted; who came at a door came when nobody came any more at those
--- before it in the text; whoever came to ask stands at the end of the queue.
+-- Doors and connections went on while nothing was posted; each door before one at which somebody came has ended by now, or
+-- it answered once more in this call that nobody has come yet; whoever came to ask stands at the end of the queue.
 pub record Goes (IsMade : WireTold → Type 0) (most : ℕ) (before now : Going) : Type 0 where
   pub doors : AllGoOn before.doors now.doors
   pub connections : LinksGoOn IsMade (map lead_of before.doors) before.connections now.connections
@@ -407,7 +408,7 @@ pub record HasRested (before now : List ListenerTold) : Type 0 where
   pub rested : now ≡ after_rest mid
   pub goes : AllGoOn before mid
 
--- What the call came to: the posting of the request that has been whole for longest, nothing yet, or nothing any more.
+-- What the call came to: the posting of the request that stands first in the queue, nothing yet, or nothing any more.
 abbrev pub Looks : (WireTold → Type 0) → ℕ → Next → Going → Going → Type 0
 Looks IsMade most (next.Posting p) before now = Posts IsMade most p before now
 Looks IsMade most next.NotYet before now = Rests IsMade most before now × HasRested before.doors now.doors

@@ -85,7 +85,7 @@ pub record RoundsAndOne (IsMade : WireTold → Type 0) (most : ℕ) (before now 
 
 -- ---- what they come to
 
--- The request that has been whole for longest is posted, and nothing else is done.
+-- The request that stands first in the queue is posted, and nothing else is done.
 pub record HandsFirst (p : Posting) (before now : Going) : Type 0 where
   pub number : ℕ
   pub first : before.queue ≡ number ∷ now.queue

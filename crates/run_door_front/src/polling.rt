@@ -150,7 +150,7 @@ impl<W: PollWire + Drop> Client<W> {
         }
     }
 
-    /// The posting of the request that is whole, which is pending an answer then. The posting has this place.
+    /// The posting of the request that is whole, which waits for its answer then. The posting has this place.
     fn ask(&mut self, alloc: Global, place: usize) -> Result<Posting, AllocError>
         requires { stage_of self.old.seen.kept.next ≡ Stages.Asks }
         ensures { IfOk result (λ posting. Answers place posting self.old self.new) }

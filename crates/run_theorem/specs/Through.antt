@@ -17,7 +17,8 @@ use Rattle.conn_future.specs.Stages.{IsOver}
 abbrev pub most_open : ℕ
 most_open = 1024
 
--- why nothing came of a connection: it waited for an answer, its wire could move nothing yet, or it was over
+-- why nothing came of a connection: it waited for an answer, its wire has answered that it can move nothing yet, or it
+-- was over
 pub data Pause : Type 0 where
   for_answer : Pause
   for_wire : Pause
@@ -29,7 +30,7 @@ is_for_answer for_answer = true
 is_for_answer for_wire = false
 is_for_answer at_end = false
 
--- its wire could move nothing yet
+-- its wire has answered that it can move nothing yet
 abbrev pub is_for_wire : Pause → Bool
 is_for_wire for_answer = false
 is_for_wire for_wire = true
@@ -45,7 +46,7 @@ pub record HadNoAnswer (w : Setting) (h : List Entry) (asked : List Asked) (k : 
   pub unfinished : list_any (nat_eq place) (finished_early w h (length asked)) ≡ false
 
 -- What a connection tells by whose pause nothing came of it, where it waited for an answer if this is so: its wire has
--- answered that it can move nothing yet, or it is over.
+-- answered once, at some time, that it can move nothing yet, or it is over.
 abbrev pub Paused : Type 0 → Pause → RunConnection → PollTold → Type 0
 Paused Waited for_answer connection wire = Waited
 Paused Waited for_wire connection wire = 0 < wire.waits
@@ -69,10 +70,11 @@ rests_at doors = sum_by (λ (door : DoorTold). door.rests) doors
 abbrev pub waits_of : Used → ℕ
 waits_of used = sum_by (λ (door : DoorTold). door.waits) used.doors + sum_by (λ (wire : PollTold). wire.waits) used.wires
 
--- A run asked for no posting any more, with connections that each waited for an answer, had a wire that could move
--- nothing yet, or were over. No connection could come any more, and each waited for an answer or was over. Or it rested
--- at the doors as often, in all, as a run looks in a row; and so many connections as may be open waited for an answer in
--- the end, or as often, in all, doors answered that nobody has come yet and wires that they can move nothing yet.
+-- A run asked for no posting any more, with connections that each waited for an answer, had a wire that has answered that
+-- it can move nothing yet, or were over. No connection could come any more, and each waited for an answer or was over. Or
+-- it rested at the doors as often, over the whole run, as a run looks in a row; and so many connections as may be open
+-- waited for an answer in the end, or as often, over the whole run, doors answered that nobody has come yet and wires that
+-- they can move nothing yet.
 pub record IsThrough (Waited : ℕ → Type 0) (most : ℕ) (connections : List RunConnection) (used : Used) : Type 0 where
   pub pauses : List Pause
   pub each : WerePaused Waited 0 pauses connections used.wires

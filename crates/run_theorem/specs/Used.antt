@@ -99,7 +99,7 @@ pub record IsUsed (wanted : List DoorAt) (before now : DoorsTold) (used : Used) 
 
 -- A wire as it comes: as far as it tells nothing was read or written on it; it has not failed, and it is open.
 pub record IsNewLine (line : WireTold) : Type 0 where
-  pub unread : line.read ≡ None ⊎ line.read ≡ Some []
+  pub nothing_read : line.read ≡ None ⊎ line.read ≡ Some []
   pub unwritten : line.written ≡ None ⊎ line.written ≡ Some []
   pub read_unfailed : line.read_failed ≡ false
   pub write_unfailed : line.write_failed ≡ false
@@ -127,6 +127,6 @@ AreWires IsMade (v ∷ vs) (t ∷ ts) (w ∷ ws) = IsWireOf IsMade v t w.wire ×
 AreWires IsMade vs ts ws = ⊥
 
 -- No text goes out on a connection any more: all that was due on it was written, or a write failed. Or its wire answered
--- as often, in all, as a run looks in a row that it can move nothing yet.
+-- as often, over its whole life, as a run looks in a row that it can move nothing yet.
 abbrev pub IsWrittenOut : RunConnection → PollTold → Type 0
 IsWrittenOut connection wire = (connection.stage ≢ Stages.Writes) ⊎ (most_waits ≤ wire.waits)
