@@ -121,8 +121,8 @@ CameInOrder [] links = links ≡ []
 CameInOrder (d ∷ ds) links = (here : List ClientTold) × (others : List ClientTold) × (links ≡ here ++ others)
     × (list_all (λ link. came_by link d) here ≡ true) × CameInOrder ds others
 
--- A connection came at one of these doors. Each of those before it in the text has ended by now, or it answered once more
--- since that nobody has come yet: before the connection came or after it.
+-- A connection came at one of these doors. Each of those before it in the text has ended by now, or it answered once
+-- more since that nobody has come yet: before the connection came or after it.
 abbrev pub CameInTurn : List ListenerTold → List ListenerTold → ClientTold → Type 0
 CameInTurn [] qs link = ⊥
 CameInTurn (p ∷ ps) [] link = ⊥
@@ -346,8 +346,8 @@ going doors connections opened queue traffics = record {
   traffics = traffics;
 }
 
--- Doors and connections went on while nothing was posted; each door before one at which somebody came has ended by now, or
--- it answered once more in this call that nobody has come yet; whoever came to ask stands at the end of the queue.
+-- Doors and connections went on while nothing was posted; each door before one at which somebody came has ended by now,
+-- or it answered once more in this call that nobody has come yet; whoever came to ask stands at the end of the queue.
 pub record Goes (IsMade : WireTold → Type 0) (most : ℕ) (before now : Going) : Type 0 where
   pub doors : AllGoOn before.doors now.doors
   pub connections : LinksGoOn IsMade (map lead_of before.doors) before.connections now.connections

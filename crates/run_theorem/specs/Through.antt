@@ -70,11 +70,11 @@ rests_at doors = sum_by (λ (door : DoorTold). door.rests) doors
 abbrev pub waits_of : Used → ℕ
 waits_of used = sum_by (λ (door : DoorTold). door.waits) used.doors + sum_by (λ (wire : PollTold). wire.waits) used.wires
 
--- A run asked for no posting any more, with connections that each waited for an answer, had a wire that has answered that
--- it can move nothing yet, or were over. No connection could come any more, and each waited for an answer or was over. Or
--- it rested at the doors as often, over the whole run, as a run looks in a row; and so many connections as may be open
--- waited for an answer in the end, or as often, over the whole run, doors answered that nobody has come yet and wires that
--- they can move nothing yet.
+-- A run asked for no posting any more, with connections that each waited for an answer, had a wire that has answered
+-- that it can move nothing yet, or were over. No connection could come any more, and each waited for an answer or was
+-- over. Or it rested at the doors as often, over the whole run, as a run looks in a row; and so many connections as may
+-- be open waited for an answer in the end, or as often, over the whole run, doors answered that nobody has come yet and
+-- wires that they can move nothing yet.
 pub record IsThrough (Waited : ℕ → Type 0) (most : ℕ) (connections : List RunConnection) (used : Used) : Type 0 where
   pub pauses : List Pause
   pub each : WerePaused Waited 0 pauses connections used.wires
