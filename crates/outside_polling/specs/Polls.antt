@@ -8,11 +8,12 @@ use Rattle.outside_traits.specs.declared.calls.WireCall.TheVariants.{Read, Wrote
 use Rattle.outside_polling.specs.declared.traits.Ready.{Ready}
 use Rattle.outside_polling.specs.declared.traits.Ready.TheVariants.{Done, NotYet}
 
--- What is told of a wire that does not wait: what every wire tells, and how often it has answered that it can move
--- nothing yet. An answer of that kind is none of its reads and writes.
+-- What is told of a wire that does not wait: what every wire tells, how often it has answered that it can move nothing
+-- yet, and how often in a row up to now. An answer of that kind is none of its reads and writes.
 pub record PollTold : Type 0 where
   pub wire : WireTold
   pub waits : ℕ
+  pub in_a_row : ℕ
 
 -- a count one higher; it stops at the last value of its type
 abbrev pub once_more : ℕ → ℕ
@@ -20,7 +21,13 @@ once_more before = min (before + 1) (2 ^ 64 - 1)
 
 -- the wire answered once more that it can move nothing yet, and did nothing else
 abbrev pub waited : PollTold → PollTold
-waited wire = record wire { waits = once_more wire.waits }
+waited wire = record wire { waits = once_more wire.waits; in_a_row = once_more wire.in_a_row }
+
+-- how often in a row it has answered so after an answer, where it had so often before: any other answer ends the row
+abbrev pub row_after : {E : Type 0} → Result Ready E → ℕ → ℕ
+row_after (Ok (Done count)) before = 0
+row_after (Ok NotYet) before = once_more before
+row_after (Err cause) before = 0
 
 -- a wire that was closed, which drops what is left to read
 abbrev pub shut_so : PollTold → PollTold
