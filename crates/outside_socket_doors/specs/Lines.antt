@@ -5,8 +5,8 @@ use Rattle.outside_polling.specs.declared.traits.Ready.{Ready}
 use Rattle.outside_polling.specs.declared.traits.Ready.TheVariants.{Done, NotYet}
 
 -- a connection over a socket: whether a read of it has failed, whether a write has before it was closed, whether a read
--- told the end, whether it is closed, how often it could move nothing yet and how often in a row up to now, and at which
--- door it came
+-- told the end, whether it is closed, how often it could move nothing yet, in a row up to now and in the longest
+-- row, and at which door it came
 pub record LineTold : Type 0 where
   pub read_failed : Bool
   pub write_failed : Bool
@@ -14,6 +14,7 @@ pub record LineTold : Type 0 where
   pub closed : Bool
   pub waits : ℕ
   pub in_a_row : ℕ
+  pub longest : ℕ
   pub door : ℕ
 
 -- what it tells as a wire: none of its bytes and calls
@@ -32,6 +33,7 @@ told_by_line line = record {
   };
   waits = line.waits;
   in_a_row = line.in_a_row;
+  longest = line.longest;
 }
 
 -- a new connection, which came at this door
@@ -44,6 +46,7 @@ new_wire door =
       closed = false;
       waits = 0;
       in_a_row = 0;
+      longest = 0;
       door = door;
     }
 

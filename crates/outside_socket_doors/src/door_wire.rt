@@ -20,6 +20,7 @@ pub struct DoorWire<H: Net + Clock + Eprint + Copy + Drop> {
     ended: bool,
     waits: u64,
     in_a_row: u64,
+    longest: u64,
     door: u64,
 }
 
@@ -36,6 +37,7 @@ impl<H: Net + Clock + Eprint + Copy + Drop> Model for DoorWire<H> {
       closed = is_none w.line;
       waits = w.waits;
       in_a_row = w.in_a_row;
+      longest = w.longest;
       door = w.door;
     } };
 }
@@ -52,6 +54,7 @@ impl<H: Net + Clock + Eprint + Copy + Drop> DoorWire<H> {
             ended: false,
             waits: 0,
             in_a_row: 0,
+            longest: 0,
             door,
         }
     }
@@ -105,6 +108,9 @@ impl<H: Net + Clock + Eprint + Copy + Drop> PollWire for DoorWire<H> {
         };
         let answer = line.try_read(into);
         self.in_a_row = row_after(answer, self.in_a_row);
+        if self.longest < self.in_a_row {
+            self.longest = self.in_a_row;
+        }
         match answer {
             Ok(Ready::Done(count)) => self.ended |= has_room && count == 0,
             Ok(Ready::NotYet) => self.waits = self.waits.saturating_add(1),
@@ -120,6 +126,9 @@ impl<H: Net + Clock + Eprint + Copy + Drop> PollWire for DoorWire<H> {
         };
         let answer = line.try_write(from);
         self.in_a_row = row_after(answer, self.in_a_row);
+        if self.longest < self.in_a_row {
+            self.longest = self.in_a_row;
+        }
         match answer {
             Ok(Ready::Done(_)) => {}
             Ok(Ready::NotYet) => self.waits = self.waits.saturating_add(1),

@@ -127,12 +127,12 @@ pub record HadNoAnswer (d : Exchange) (k : ℕ) : Type 0 where
   pub untold : list_any (λ (t : Told). nat_eq place t.place) (take d.received.seen d.sent.told) ≡ false
 
 -- When the front was asked last, connection k paused so: its last request had no answer, the last that its wire answered
--- is, as often in a row as a run looks, that it can move nothing yet, its wire answered so as often over its whole life,
--- or it is over.
+-- is, as often in a row as a run looks, that it can move nothing yet, its wire answered so as often in a row before, or it
+-- is over.
 abbrev pub WasPaused : Exchange → ℕ → Pause → ClientTold → Type 0
 WasPaused d k for_answer link = HadNoAnswer d k
 WasPaused d k for_wire link = most_waits ≤ link.in_a_row
-WasPaused d k for_room link = most_waits ≤ link.waits
+WasPaused d k for_room link = most_waits ≤ link.longest
 WasPaused d k at_end link = IsOver (stage_of link.seen.kept.next)
 
 -- the same of each connection, the first of which has the number k

@@ -19,17 +19,19 @@ pub record ListenerTold : Type 0 where
   pub door : DoorTold
 
 -- A connection, the service of its door, how often its wire has answered that it can move nothing yet, how often in a row
--- up to now, and the request that is pending an answer, where one is.
+-- up to now and in its longest row, and the request that is pending an answer, where one is.
 pub record ClientTold : Type 0 where
   pub service : ℕ
   pub seen : Seen
   pub waits : ℕ
   pub in_a_row : ℕ
+  pub longest : ℕ
   pub pending : Option PendingReply
 
 -- what the wire of a connection tells
 abbrev pub told_of_wire : ClientTold → PollTold
-told_of_wire link = record { wire = link.seen.line; waits = link.waits; in_a_row = link.in_a_row }
+told_of_wire link =
+    record { wire = link.seen.line; waits = link.waits; in_a_row = link.in_a_row; longest = link.longest }
 
 -- What a front over doors keeps: the doors in the order of the text; the connections in the order in which they were
 -- accepted, which are called by their numbers in it; those that are open, and those whose request is whole and was not

@@ -158,6 +158,8 @@ pub record ClientGoesOn (before now : ClientTold) : Type 0 where
   pub unowed : stage_at now ≡ Stages.Owes → stage_at before ≡ Stages.Owes
   pub memory : stage_at now ≡ Stages.Spent → stage_at before ≡ Stages.Spent
   pub waits : HasNotFallen before.waits now.waits
+  pub longest : HasNotFallen before.longest now.longest
+  pub row : now.in_a_row ≤ now.longest
   pub talks : TalksOn before.seen now.seen
 
 -- connections go on, and new ones came, at these doors

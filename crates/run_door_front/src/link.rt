@@ -38,6 +38,7 @@ impl<W: PollWire + Drop> Model for Client<W> {
       seen = seen l.task.kept (W.told l.task.wire);
       waits = (W.told l.task.wire).waits;
       in_a_row = (W.told l.task.wire).in_a_row;
+      longest = (W.told l.task.wire).longest;
       pending = l.pending;
     } };
 }

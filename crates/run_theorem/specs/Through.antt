@@ -50,11 +50,11 @@ pub record HadNoAnswer (w : Setting) (h : List Entry) (asked : List Asked) (k : 
 
 -- What a connection tells by whose pause nothing came of it, where it waited for an answer if this is so. The last that
 -- its wire answered is, as often in a row as a run looks, that it can move nothing yet. Or a text went out on it: its wire
--- answered so as often, over its whole life, and moved something when what was due was written. Or it is over.
+-- answered so as often in a row, and moved something later, when what was due was written. Or it is over.
 abbrev pub Paused : Type 0 → Pause → RunConnection → PollTold → Type 0
 Paused Waited for_answer connection wire = Waited
 Paused Waited for_wire connection wire = most_waits ≤ wire.in_a_row
-Paused Waited for_room connection wire = most_waits ≤ wire.waits
+Paused Waited for_room connection wire = most_waits ≤ wire.longest
 Paused Waited at_end connection wire = IsOver connection.stage
 
 -- each connection, the first of which has the number k, paused so
