@@ -50,6 +50,7 @@ pub record IsClient (IsMade : WireTold → Type 0) (link : ClientTold) (connecti
   pub stage : connection.stage ≡ stage_of link.seen.kept.next
   pub memory : connection.stage ≢ Stages.Spent
   pub owes : OwesAt link.pending connection.stage
+  pub row : link.in_a_row ≤ link.longest
   pub first : WireTold
   pub made : IsMade first
   pub fresh : IsNewLine first

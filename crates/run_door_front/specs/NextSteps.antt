@@ -110,6 +110,7 @@ pub record IsNewClient (IsMade : WireTold → Type 0) (link : ClientTold) : Type
   pub pending : link.pending ≡ None
   pub unowed : stage_at link ≢ Stages.Owes
   pub memory : stage_at link ≢ Stages.Spent
+  pub no_row : link.in_a_row ≡ 0
   pub first : WireTold
   pub made : IsMade first
   pub fresh : IsNewLine first
@@ -159,7 +160,7 @@ pub record ClientGoesOn (before now : ClientTold) : Type 0 where
   pub memory : stage_at now ≡ Stages.Spent → stage_at before ≡ Stages.Spent
   pub waits : HasNotFallen before.waits now.waits
   pub longest : HasNotFallen before.longest now.longest
-  pub row : now.in_a_row ≤ now.longest
+  pub row : before.in_a_row ≤ before.longest → now.in_a_row ≤ now.longest
   pub talks : TalksOn before.seen now.seen
 
 -- connections go on, and new ones came, at these doors
@@ -294,6 +295,8 @@ pub record IsAsked (place : ℕ) (body : List ℕ) (before now : ClientTold) : T
   pub pending : now.pending ≡ Some (record { place = place; read = posted body })
   pub stage : stage_at now ≡ Stages.Owes
   pub waits : now.waits ≡ before.waits
+  pub row : now.in_a_row ≡ before.in_a_row
+  pub longest : now.longest ≡ before.longest
   pub talks : (first : WireTold) (bodies : List (List ℕ)) (texts : List (Option (List ℕ)))
       → IsTalking first before.seen bodies texts → IsTalking first now.seen (bodies ++ body ∷ []) texts
 
