@@ -14,7 +14,7 @@ use Rattle.jsonrpc_postings.specs.Told.{response_told}
 use Rattle.run_theorem.specs.RunConnections.{RunConnection, came_at, AreTaken}
 use Rattle.run_theorem.specs.Served.{Requests}
 pub use Rattle.run_theorem.specs.Through.{most_open, Pause, for_answer, for_wire, for_room, at_end}
-pub use Rattle.run_theorem.specs.Through.{is_for_wire, is_open}
+pub use Rattle.run_theorem.specs.Through.{is_for_wire, is_unended}
 use Rattle.run_theorem.specs.Lines.{most_waits}
 pub use Rattle.run_theorem.specs.Used.{IsNewLine}
 use Rattle.conn_future.specs.declared.stage.Stage.{Stage}
@@ -155,7 +155,7 @@ pub record FellQuiet (kept : Keeping) (d : Exchange) : Type 0 where
   pub pauses : List Pause
   pub each : WerePaused d 0 pauses kept.connections
   pub rests : most_waits ≤ rests_in_a_row_at kept.doors
-  pub doors : ((nat_le kept.most (length kept.connections) || nat_le most_open (count_by is_open pauses)) ≡ true)
+  pub doors : ((nat_le kept.most (length kept.connections) || nat_le most_open (count_by is_unended pauses)) ≡ true)
       ⊎ (list_all is_quiet kept.doors ≡ true)
 
 -- Why the front had no posting: it ended with its connections, nothing came any more, or it had rested as often in all as

@@ -33,11 +33,11 @@ is_for_wire for_room = true
 is_for_wire at_end = false
 
 -- it was not over
-abbrev pub is_open : Pause → Bool
-is_open for_answer = true
-is_open for_wire = true
-is_open for_room = true
-is_open at_end = false
+abbrev pub is_unended : Pause → Bool
+is_unended for_answer = true
+is_unended for_wire = true
+is_unended for_room = true
+is_unended at_end = false
 
 -- the last request of connection k had no answer before the end: its posting was not finished by then
 pub record HadNoAnswer (w : Setting) (h : List Entry) (asked : List Asked) (k : ℕ) : Type 0 where
@@ -69,7 +69,7 @@ no_more most connections doors = nat_le most (length connections) || list_all ha
 
 -- nobody was let in: as many were accepted as may be, or as many were open as may be at once
 abbrev pub is_full : ℕ → List RunConnection → List Pause → Bool
-is_full most connections pauses = nat_le most (length connections) || nat_le most_open (count_by is_open pauses)
+is_full most connections pauses = nat_le most (length connections) || nat_le most_open (count_by is_unended pauses)
 
 -- a door has ended, or the last that it answered is, as often in a row as a run looks, that nobody has come yet
 abbrev pub is_quiet : DoorTold → Bool
