@@ -1,6 +1,6 @@
 -- What passed between a front over doors and its run.
-use Rattle.std.specs.Prelude.{◌≡◌, ◌≢◌, ◌⊎◌, ℕ, suc, ◌+◌, ◌-◌, ◌^◌, ◌<◌, ◌≤◌, min, true, false, List, [], ◌∷◌}
-use Rattle.std.specs.Prelude.{length, map, take, nat_eq, nat_lt, count_by, Option, None, Some, Contains, slice_get}
+use Rattle.std.specs.Prelude.{◌≡◌, ◌≢◌, ◌⊎◌, ℕ, suc, ◌-◌, ◌^◌, ◌<◌, ◌≤◌, ◌||◌, true, false, List, [], ◌∷◌}
+use Rattle.std.specs.Prelude.{length, map, take, nat_eq, nat_le, nat_lt, count_by, Option, None, Some, Contains, slice_get}
 use Rattle.std.specs.List.{list_all, list_any, sum_by}
 use Rattle.std.specs.Io.KnownBytes.{Appends}
 use Rattle.outside_traits.specs.Causes.{Rose}
@@ -13,7 +13,9 @@ use Rattle.run_theorem.specs.Lines.{IsPrefix, IsProperPrefix}
 use Rattle.jsonrpc_postings.specs.Told.{response_told}
 use Rattle.run_theorem.specs.RunConnections.{RunConnection, came_at, AreTaken}
 use Rattle.run_theorem.specs.Served.{Requests}
-pub use Rattle.run_theorem.specs.Through.{most_open, Pause, for_answer, for_wire, at_end, is_for_answer, is_for_wire}
+pub use Rattle.run_theorem.specs.Through.{most_open, Pause, for_answer, for_wire, for_room, at_end}
+pub use Rattle.run_theorem.specs.Through.{is_for_wire, is_unended}
+use Rattle.run_theorem.specs.Lines.{most_waits}
 pub use Rattle.run_theorem.specs.Used.{IsNewLine}
 use Rattle.conn_future.specs.declared.stage.Stage.{Stage}
 use Rattle.conn_future.specs.declared.stage.Stage.TheVariants as Stages
@@ -22,7 +24,7 @@ use Rattle.conn_future.specs.Talking.{IsTalking}
 use Rattle.outside_traits.specs.Told.{WireTold}
 use Rattle.run_door_front.specs.declared.link.PendingReply.{PendingReply}
 use Rattle.run_door_front.specs.Keeping.{ListenerTold, ClientTold, Keeping, services_of, places_of, leads_of, is_led}
-use Rattle.run_door_front.specs.Keeping.{rests_at, no_more, AreLed}
+use Rattle.run_door_front.specs.Keeping.{rests_at, rests_in_a_row_at, is_quiet, no_more, AreLed}
 
 -- the two sides of a front over doors: what it keeps, and the sink of its notes
 pub record Sides : Type 0 where
@@ -48,6 +50,7 @@ pub record IsClient (IsMade : WireTold → Type 0) (link : ClientTold) (connecti
   pub stage : connection.stage ≡ stage_of link.seen.kept.next
   pub memory : connection.stage ≢ Stages.Spent
   pub owes : OwesAt link.pending connection.stage
+  pub row : link.in_a_row ≤ link.longest
   pub first : WireTold
   pub made : IsMade first
   pub fresh : IsNewLine first
@@ -124,11 +127,13 @@ pub record HadNoAnswer (d : Exchange) (k : ℕ) : Type 0 where
   pub last : suc asked.request ≡ count_by (is_of k) d.received.asked
   pub untold : list_any (λ (t : Told). nat_eq place t.place) (take d.received.seen d.sent.told) ≡ false
 
--- When the front was asked last, connection k paused so: its last request had no answer, its wire has answered once, at
--- some time, that it can move nothing yet, or it is over.
+-- When the front was asked last, connection k paused so: its last request had no answer, the last that its wire answered
+-- is, as often in a row as a run looks, that it can move nothing yet, its wire answered so as often in a row before, or it
+-- is over.
 abbrev pub WasPaused : Exchange → ℕ → Pause → ClientTold → Type 0
 WasPaused d k for_answer link = HadNoAnswer d k
-WasPaused d k for_wire link = 0 < link.waits
+WasPaused d k for_wire link = most_waits ≤ link.in_a_row
+WasPaused d k for_room link = most_waits ≤ link.longest
 WasPaused d k at_end link = IsOver (stage_of link.seen.kept.next)
 
 -- the same of each connection, the first of which has the number k
@@ -138,22 +143,25 @@ WerePaused d k [] (l ∷ ls) = ⊥
 WerePaused d k (p ∷ ps) [] = ⊥
 WerePaused d k (p ∷ ps) (l ∷ ls) = WasPaused d k p l × WerePaused d (suc k) ps ls
 
--- how often doors answered that nobody has come yet, and wires that they can move nothing yet, in all
-abbrev pub waits_at : List ListenerTold → List ClientTold → ℕ
-waits_at doors connections =
-    sum_by (λ (p : ListenerTold). p.door.waits) doors + sum_by (λ (link : ClientTold). link.waits) connections
-
--- The front had no posting: each connection waited for an answer, had a wire that could move nothing yet, or was over.
--- No connection can come any more, and each waited for an answer or was over; or at least as often as there was none
--- in a row was rested, at all doors, and so many as may be open waited for an answer, or doors and wires answered as
--- often, in all, that nobody has come and nothing moves yet.
-pub record HadNone (kept : Keeping) (d : Exchange) : Type 0 where
+-- The front ended with its connections: none can come any more, and each waited for an answer or was over.
+pub record HadEnded (kept : Keeping) (d : Exchange) : Type 0 where
   pub pauses : List Pause
   pub each : WerePaused d 0 pauses kept.connections
-  pub over : d.received.ended ≡ true → (no_more kept ≡ true) × (list_any is_for_wire pauses ≡ false)
-  pub waited : d.received.ended ≡ false → (most_open ≤ count_by is_for_answer pauses)
-      ⊎ (min d.received.waits (2 ^ 64 - 1) ≤ waits_at kept.doors kept.connections)
-  pub rested : d.received.ended ≡ false → min d.received.waits (2 ^ 64 - 1) ≤ rests_at kept.doors
+  pub closed : no_more kept ≡ true
+  pub none_for_wire : list_any is_for_wire pauses ≡ false
+
+-- Nothing came any more, by what doors and wires count themselves.
+pub record FellQuiet (kept : Keeping) (d : Exchange) : Type 0 where
+  pub pauses : List Pause
+  pub each : WerePaused d 0 pauses kept.connections
+  pub rests : most_waits ≤ rests_in_a_row_at kept.doors
+  pub doors : ((nat_le kept.most (length kept.connections) || nat_le most_open (count_by is_unended pauses)) ≡ true)
+      ⊎ (list_all is_quiet kept.doors ≡ true)
+
+-- Why the front had no posting: it ended with its connections, nothing came any more, or it had rested as often in all as
+-- is counted.
+abbrev pub HadNone : Keeping → Exchange → Type 0
+HadNone kept d = HadEnded kept d ⊎ FellQuiet kept d ⊎ (2 ^ 64 - 1 ≤ rests_at kept.doors)
 
 -- the front had no posting when it was asked last
 abbrev pub GaveNone : Exchange → Type 0

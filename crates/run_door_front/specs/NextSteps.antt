@@ -10,6 +10,7 @@ use Rattle.office_core.specs.declared.front.Posting.{Posting}
 use Rattle.run_theorem.specs.declared.front.Next.{Next}
 use Rattle.run_theorem.specs.declared.front.Next.TheVariants as next
 use Rattle.run_theorem.specs.Calls.{most_postings}
+use Rattle.run_theorem.specs.Lines.{most_waits}
 use Rattle.run_theorem.specs.Texts.{posting_of}
 use Rattle.run_theorem.specs.RunConnections.{came_with}
 use Rattle.conn_future.specs.declared.stage.Stage.TheVariants as Stages
@@ -18,7 +19,7 @@ use Rattle.conn_future.specs.Talking.{IsTalking, TalksOn}
 use Rattle.outside_traits.specs.Told.{WireTold}
 use Rattle.run_door_front.specs.Keeping.{ListenerTold, ClientTold, Keeping, Lead, lead_of, is_led, rests_at, wires_to}
 use Rattle.run_door_front.specs.Keeping.{leads_to, AreLed, stage_at, is_open, asks, owes, asks_there, IsOrdered}
-use Rattle.run_door_front.specs.Keeping.{closed_off}
+use Rattle.run_door_front.specs.Keeping.{closed_off, rests_in_a_row_at, is_quiet}
 use Rattle.run_door_front.specs.Exchanged.{IsNewLine, most_open}
 
 -- ---- doors
@@ -27,19 +28,28 @@ use Rattle.run_door_front.specs.Exchanged.{IsNewLine, most_open}
 abbrev pub HasNotFallen : ℕ → ℕ → Type 0
 HasNotFallen before now = min before (2 ^ 64 - 1) ≤ now
 
+-- nobody came at a door, as far as it counts the wires that it gave
+abbrev pub NobodyCame : ListenerTold → ListenerTold → Type 0
+NobodyCame before now = (now.door.wires ≡ before.door.wires) × (before.door.wires < 2 ^ 64 - 1)
+
 -- A door goes on: its service and its place stay, an end stays, and its waits and rests do not fall. At one that has
 -- ended nothing is done but to rest.
 pub record GoesOn (before now : ListenerTold) : Type 0 where
   pub service : now.service ≡ before.service
   pub place : now.door.place ≡ before.door.place
   pub ended : has_ended before.door ≡ true → has_ended now.door ≡ true
-  pub untried : has_ended before.door ≡ true → now.door ≡ record before.door { rests = now.door.rests }
+  pub untried : has_ended before.door ≡ true
+      → now.door ≡ record before.door { rests = now.door.rests; rests_in_a_row = now.door.rests_in_a_row }
   pub waits : HasNotFallen before.door.waits now.door.waits
   pub rests : HasNotFallen before.door.rests now.door.rests
+  pub row : NobodyCame before now → HasNotFallen before.door.waits_in_a_row now.door.waits_in_a_row
+  pub rests_row : NobodyCame before now → HasNotFallen before.door.rests_in_a_row now.door.rests_in_a_row
 
--- nobody comes at a door: it has ended, or it answered once more that nobody has come yet
+-- nobody comes at a door: it has ended, or it answered once more that nobody has come yet, and where nobody came, once
+-- more in a row
 abbrev pub IsTried : ListenerTold → ListenerTold → Type 0
-IsTried before now = (has_ended now.door ≡ true) ⊎ (added before.door.waits 1 ≤ now.door.waits)
+IsTried before now = (has_ended now.door ≡ true) ⊎ ((added before.door.waits 1 ≤ now.door.waits)
+    × (NobodyCame before now → added before.door.waits_in_a_row 1 ≤ now.door.waits_in_a_row))
 
 -- each door goes on
 abbrev pub AllGoOn : List ListenerTold → List ListenerTold → Type 0
@@ -100,6 +110,7 @@ pub record IsNewClient (IsMade : WireTold → Type 0) (link : ClientTold) : Type
   pub pending : link.pending ≡ None
   pub unowed : stage_at link ≢ Stages.Owes
   pub memory : stage_at link ≢ Stages.Spent
+  pub no_row : link.in_a_row ≡ 0
   pub first : WireTold
   pub made : IsMade first
   pub fresh : IsNewLine first
@@ -148,6 +159,8 @@ pub record ClientGoesOn (before now : ClientTold) : Type 0 where
   pub unowed : stage_at now ≡ Stages.Owes → stage_at before ≡ Stages.Owes
   pub memory : stage_at now ≡ Stages.Spent → stage_at before ≡ Stages.Spent
   pub waits : HasNotFallen before.waits now.waits
+  pub longest : HasNotFallen before.longest now.longest
+  pub row : before.in_a_row ≤ before.longest → now.in_a_row ≤ now.longest
   pub talks : TalksOn before.seen now.seen
 
 -- connections go on, and new ones came, at these doors
@@ -282,6 +295,8 @@ pub record IsAsked (place : ℕ) (body : List ℕ) (before now : ClientTold) : T
   pub pending : now.pending ≡ Some (record { place = place; read = posted body })
   pub stage : stage_at now ≡ Stages.Owes
   pub waits : now.waits ≡ before.waits
+  pub row : now.in_a_row ≡ before.in_a_row
+  pub longest : now.longest ≡ before.longest
   pub talks : (first : WireTold) (bodies : List (List ℕ)) (texts : List (Option (List ℕ)))
       → IsTalking first before.seen bodies texts → IsTalking first now.seen (bodies ++ body ∷ []) texts
 
@@ -361,28 +376,6 @@ pub record Goes (IsMade : WireTold → Type 0) (most : ℕ) (before now : Going)
   pub led : sum_by wires_of before.doors ≡ length before.connections
       → AreLed before.doors before.connections → AreLed now.doors now.connections
 
--- Nothing comes of a connection for now, whose wire had waited so often before: it waits for an answer, it is over, or
--- its wire could move nothing yet.
-abbrev pub HasPaused : ℕ → ClientTold → Type 0
-HasPaused waits now = (stage_at now ≡ Stages.Owes) ⊎ (IsOver (stage_at now) ⊎ (added waits 1 ≤ now.waits))
-
--- the same of each connection, of old ones and of those that came
-abbrev pub HavePaused : List ClientTold → List ClientTold → Type 0
-HavePaused [] [] = Unit {0}
-HavePaused [] (m ∷ ms) = HasPaused 0 m × HavePaused [] ms
-HavePaused (l ∷ ls) [] = ⊥
-HavePaused (l ∷ ls) (m ∷ ms) = HasPaused l.waits m × HavePaused ls ms
-
--- They went on, and nothing comes for now: no request is whole, nothing comes of any connection, and nobody comes at
--- any door, or there is no more room.
-pub record Rests (IsMade : WireTold → Type 0) (most : ℕ) (before now : Going) : Type 0 where
-  pub goes : Goes IsMade most before now
-  pub none : now.queue ≡ []
-  pub paused : HavePaused before.connections now.connections
-  pub tried : (has_room most (length now.connections) (count_by is_open now.connections) ≡ false)
-      ⊎ AreTried before.doors now.doors
-  pub some : (closed_off most now.doors now.connections && all_owing now.connections) ≡ false
-
 -- They went on until nothing comes any more: no request is whole, no connection can come, and each that is open waits
 -- for an answer.
 pub record Ends (IsMade : WireTold → Type 0) (most : ℕ) (before now : Going) : Type 0 where
@@ -402,16 +395,37 @@ pub record Posts (IsMade : WireTold → Type 0) (most : ℕ) (p : Posting) (befo
   pub doors : now.doors ≡ mid.doors
   pub opened : now.opened ≡ mid.opened
 
--- There was a rest, at the first door that has not ended, or else at the first of all.
-pub record HasRested (before now : List ListenerTold) : Type 0 where
-  pub mid : List ListenerTold
-  pub rested : now ≡ after_rest mid
-  pub goes : AllGoOn before mid
+-- A connection waits for an answer, the last that its wire answered is, as often in a row as a run looks, that it can
+-- move nothing yet, or it is over.
+abbrev pub IsQuietLink : ClientTold → Type 0
+IsQuietLink link = (stage_at link ≡ Stages.Owes) ⊎ (IsOver (stage_at link) ⊎ (most_waits ≤ link.in_a_row))
 
--- What the call came to: the posting of the request that stands first in the queue, nothing yet, or nothing any more.
+-- the same of each
+abbrev pub AllQuiet : List ClientTold → Type 0
+AllQuiet [] = Unit {0}
+AllQuiet (l ∷ ls) = IsQuietLink l × AllQuiet ls
+
+-- Nothing came any more, by what doors and wires count themselves: there were as many rests as a run looks in a row, at
+-- each door since somebody came there last, nobody came at any in as many tries in a row unless there was no more room,
+-- and nothing came of any connection.
+pub record IsQuietNow (most : ℕ) (now : Going) : Type 0 where
+  pub rests : most_waits ≤ rests_in_a_row_at now.doors
+  pub doors : (has_room most (length now.connections) (count_by is_open now.connections) ≡ false)
+      ⊎ (list_all is_quiet now.doors ≡ true)
+  pub connections : AllQuiet now.connections
+
+-- They went on until nothing came any more, or until there had been the most rests.
+pub record FallsQuiet (IsMade : WireTold → Type 0) (most : ℕ) (before now : Going) : Type 0 where
+  pub goes : Goes IsMade most before now
+  pub none : now.queue ≡ []
+  pub some : (closed_off most now.doors now.connections && all_owing now.connections) ≡ false
+  pub why : IsQuietNow most now ⊎ (2 ^ 64 - 1 ≤ rests_at now.doors)
+
+-- What the call came to: the posting of the request that stands first in the queue, or nothing any more. It never comes
+-- to nothing yet. The premise is what the doors gave.
 abbrev pub Looks : (WireTold → Type 0) → ℕ → Next → Going → Going → Type 0
 Looks IsMade most (next.Posting p) before now = Posts IsMade most p before now
-Looks IsMade most next.NotYet before now = Rests IsMade most before now × HasRested before.doors now.doors
-    × (sum_by wires_of before.doors ≡ length before.connections → added (rests_at before.doors) 1 ≤ rests_at now.doors)
+Looks IsMade most next.NotYet before now = ⊥
 Looks IsMade most next.End before now =
     ((most_postings ≤ length before.traffics) × (now ≡ before)) ⊎ Ends IsMade most before now
+    ⊎ (sum_by wires_of before.doors ≡ length before.connections → FallsQuiet IsMade most before now)

@@ -5,8 +5,11 @@ use Rattle.office_core.specs.declared.front.Posting.{Posting}
 use Rattle.run_theorem.specs.declared.front.Next.{Next}
 use Rattle.run_theorem.specs.declared.front.Next.TheVariants as next
 use Rattle.run_theorem.specs.Calls.{most_postings}
+use Rattle.run_theorem.specs.Lines.{most_waits}
 use Rattle.outside_traits.specs.Told.{WireTold}
-use Rattle.run_door_front.specs.Keeping.{ListenerTold, ClientTold, closed_off}
+use Rattle.outside_doors.specs.Counts.{added}
+use Rattle.conn_future.specs.Stages.{IsMoving}
+use Rattle.run_door_front.specs.Keeping.{ListenerTold, ClientTold, closed_off, stage_at}
 use Rattle.run_door_front.specs.NextSteps.{after_rest, all_owing, Doorway, doorway, Accepts, queued, PollsAll}
 use Rattle.run_door_front.specs.NextSteps.{listing, Hands, Going}
 
@@ -43,12 +46,25 @@ has_changed before now =
 abbrev pub rests_of : ListenerTold → ℕ
 rests_of port = port.door.rests
 
+-- Where no bytes moved on a connection that is read or written next, its wire could move nothing yet once more in a row.
+abbrev pub HasWaited : ClientTold → ClientTold → Type 0
+HasWaited before now =
+    IsMoving (stage_at now) → has_moved before now ≡ false → added before.in_a_row 1 ≤ now.in_a_row
+
+-- the same of each
+abbrev pub HaveWaited : List ClientTold → List ClientTold → Type 0
+HaveWaited [] [] = Unit {0}
+HaveWaited [] (m ∷ ms) = ⊥
+HaveWaited (l ∷ ls) [] = ⊥
+HaveWaited (l ∷ ls) (m ∷ ms) = HasWaited l m × HaveWaited ls ms
+
 -- A round: whoever comes at a door is let in, and after that all open connections are polled. There is no rest in it.
 pub record Round (IsMade : WireTold → Type 0) (most : ℕ) (before now : Going) : Type 0 where
   pub way : Doorway
   pub accepts : Accepts IsMade most (doorway before.doors before.connections before.opened) way
   pub polls : PollsAll (queued way.connections way.opened before.queue) (queued now.connections now.opened now.queue)
   pub doors : now.doors ≡ way.doors
+  pub waited : HaveWaited way.connections now.connections
   pub rests : map rests_of now.doors ≡ map rests_of before.doors
   pub traffics : now.traffics ≡ before.traffics
 
@@ -62,25 +78,34 @@ abbrev pub rested_going : Going → Going
 rested_going x = record x { doors = after_rest x.doors }
 
 -- Rounds one after the other, each until no request is whole and one may still come. After one in which somebody came
--- or went the next follows at once; after another one, in which bytes moved, there is a rest. So often there was one.
-pub data Rounds (IsMade : WireTold → Type 0) (most : ℕ) (before : Going) : ℕ → Going → Type 0 where
+-- or went the next follows at once; after another one there is a rest. So often there was one; and so often in a row, at
+-- the end, nobody came or went and nothing moved.
+pub data Rounds (IsMade : WireTold → Type 0) (most : ℕ) (before : Going) : ℕ → ℕ → Going → Type 0 where
   -- no round
-  no_round : Rounds IsMade most before 0 before
+  no_round : Rounds IsMade most before 0 0 before
   -- one more, in which somebody came or went
-  one_changed : (rests : ℕ) (mid now : Going) → Rounds IsMade most before rests mid → Round IsMade most mid now
-      → IsUndone most now → has_changed mid now ≡ true → Rounds IsMade most before rests now
+  one_changed : (rests still : ℕ) (mid now : Going) → Rounds IsMade most before rests still mid
+      → Round IsMade most mid now → IsUndone most now → has_changed mid now ≡ true
+      → Rounds IsMade most before rests 0 now
   -- one more, in which nobody did and bytes moved, and a rest
-  one_moved : (rests : ℕ) (mid now : Going) → Rounds IsMade most before rests mid → Round IsMade most mid now
-      → IsUndone most now → has_changed mid now ≡ false → any_moved mid.connections now.connections ≡ true
-      → Rounds IsMade most before (suc rests) (rested_going now)
+  one_moved : (rests still : ℕ) (mid now : Going) → Rounds IsMade most before rests still mid
+      → Round IsMade most mid now → IsUndone most now → has_changed mid now ≡ false
+      → any_moved mid.connections now.connections ≡ true
+      → Rounds IsMade most before (suc rests) 0 (rested_going now)
+  -- one more, in which nothing was so, and a rest
+  one_still : (rests still : ℕ) (mid now : Going) → Rounds IsMade most before rests still mid
+      → Round IsMade most mid now → IsUndone most now → has_changed mid now ≡ false
+      → any_moved mid.connections now.connections ≡ false
+      → Rounds IsMade most before (suc rests) (suc still) (rested_going now)
 
--- There were fewer postings than may be. Rounds were made, with so many rests, and one more, after which there is no
--- rest.
+-- There were fewer postings than may be. Rounds were made, with so many rests, of which so many in a row at the end came
+-- after a round in which nothing was so; and one more round, after which there is no rest.
 pub record RoundsAndOne (IsMade : WireTold → Type 0) (most : ℕ) (before now : Going) : Type 0 where
   pub fewer : length before.traffics < most_postings
   pub rests : ℕ
+  pub still : ℕ
   pub start : Going
-  pub rounds : Rounds IsMade most before rests start
+  pub rounds : Rounds IsMade most before rests still start
   pub last : Round IsMade most start now
 
 -- ---- what they come to
@@ -98,15 +123,14 @@ pub record HandsFirst (p : Posting) (before now : Going) : Type 0 where
 abbrev pub most_rests : ℕ
 most_rests = 2 ^ 64 - 1
 
--- Rounds were made until one in which nobody came or went and nothing moved, or until there had been the most rests
--- before it; no request is whole then, one may still come, and there is a rest.
-pub record RoundsToRest (IsMade : WireTold → Type 0) (most : ℕ) (before now : Going) : Type 0 where
-  pub mid : Going
-  pub rounds : RoundsAndOne IsMade most before mid
-  pub undone : IsUndone most mid
-  pub unchanged : has_changed rounds.start mid ≡ false
-  pub still : (any_moved rounds.start.connections mid.connections ≡ false) ⊎ (rounds.rests ≡ most_rests)
-  pub rested : now ≡ rested_going mid
+-- Rounds were made until there had been as many rests in a row as a run looks, after each of which nobody came or went
+-- and nothing moved; or until there had been the most rests. No request is whole then, and one may still come.
+pub record RoundsToQuiet (IsMade : WireTold → Type 0) (most : ℕ) (before now : Going) : Type 0 where
+  pub rounds : RoundsAndOne IsMade most before now
+  pub undone : IsUndone most now
+  pub unchanged : has_changed rounds.start now ≡ false
+  pub why : ((rounds.still ≡ most_waits) × (any_moved rounds.start.connections now.connections ≡ false))
+      ⊎ (rounds.rests ≡ most_rests)
 
 -- Rounds were made until one after which no request is whole and none can come any more.
 pub record RoundsToEnd (IsMade : WireTold → Type 0) (most : ℕ) (before now : Going) : Type 0 where
@@ -116,10 +140,11 @@ pub record RoundsToEnd (IsMade : WireTold → Type 0) (most : ℕ) (before now :
   pub owing : all_owing now.connections ≡ true
 
 -- What the call came to, by rounds: a posting after the first round after which a request is whole, without a rest
--- before it; nothing yet, or nothing any more.
+-- before it, or nothing any more. It never comes to nothing yet.
 abbrev pub ByRounds : (WireTold → Type 0) → ℕ → Next → Going → Going → Type 0
 ByRounds IsMade most (next.Posting p) before now =
     (mid : Going) × RoundsAndOne IsMade most before mid × HandsFirst p mid now
-ByRounds IsMade most next.NotYet before now = RoundsToRest IsMade most before now
+ByRounds IsMade most next.NotYet before now = ⊥
 ByRounds IsMade most next.End before now =
-    ((most_postings ≤ length before.traffics) × (now ≡ before)) ⊎ RoundsToEnd IsMade most before now
+    ((most_postings ≤ length before.traffics) × (now ≡ before))
+    ⊎ RoundsToQuiet IsMade most before now ⊎ RoundsToEnd IsMade most before now
