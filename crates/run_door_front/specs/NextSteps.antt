@@ -32,14 +32,15 @@ HasNotFallen before now = min before (2 ^ 64 - 1) ≤ now
 abbrev pub NobodyCame : ListenerTold → ListenerTold → Type 0
 NobodyCame before now = (now.door.wires ≡ before.door.wires) × (before.door.wires < 2 ^ 64 - 1)
 
--- A door goes on: its service and its place stay, an end stays, and its waits and rests do not fall. At one that has
--- ended nothing is done but to rest.
+-- A door goes on: its service and its place stay, an end stays, and its wires, waits and rests do not fall; where nobody
+-- came, nor do its waits and rests in a row. At one that has ended nothing is done but to rest.
 pub record GoesOn (before now : ListenerTold) : Type 0 where
   pub service : now.service ≡ before.service
   pub place : now.door.place ≡ before.door.place
   pub ended : has_ended before.door ≡ true → has_ended now.door ≡ true
   pub untried : has_ended before.door ≡ true
       → now.door ≡ record before.door { rests = now.door.rests; rests_in_a_row = now.door.rests_in_a_row }
+  pub wires : HasNotFallen before.door.wires now.door.wires
   pub waits : HasNotFallen before.door.waits now.door.waits
   pub rests : HasNotFallen before.door.rests now.door.rests
   pub row : NobodyCame before now → HasNotFallen before.door.waits_in_a_row now.door.waits_in_a_row
