@@ -1,5 +1,6 @@
 -- What moves on connections, and what their wires count where nothing does.
-use Rattle.std.specs.Prelude.{◌≡◌, ◌⊎◌, ℕ, ◌≤◌, Bool, true, false, not, ◌||◌, List, [], ◌∷◌, length, nat_eq}
+use Rattle.std.specs.Prelude.{◌≡◌, ◌⊎◌, ℕ, ◌≤◌, Bool, true, false, not, ◌||◌, List, [], ◌∷◌, length, nat_eq, Some, slice_get}
+use Rattle.std.specs.List.{list_any}
 use Rattle.outside_doors.specs.Counts.{added}
 use Rattle.conn_future.specs.Stages.{IsOver, IsUnanswered}
 use Rattle.run_door_front.specs.Keeping.{ClientTold, stage_at}
@@ -36,3 +37,13 @@ HaveWaited [] [] = Unit {0}
 HaveWaited [] (m ∷ ms) = ⊥
 HaveWaited (l ∷ ls) [] = ⊥
 HaveWaited (l ∷ ls) (m ∷ ms) = HasWaited l m × HaveWaited ls ms
+
+-- the same of the connection of a number
+abbrev pub HasWaitedAt : List ClientTold → List ClientTold → ℕ → Type 0
+HasWaitedAt before now number = (link later : ClientTold) → slice_get before number ≡ Some link
+    → slice_get now number ≡ Some later → HasWaited link later
+
+-- the same of the connections of these numbers
+abbrev pub HaveWaitedAt : List ℕ → List ClientTold → List ClientTold → Type 0
+HaveWaitedAt numbers before now = (number : ℕ) → list_any (nat_eq number) numbers ≡ true
+    → HasWaitedAt before now number
