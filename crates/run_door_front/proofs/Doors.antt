@@ -4,8 +4,8 @@ use Rattle.std.specs.List.{sum_by}
 use Rattle.std.proofs.lemmas.Bool.{true≢false}
 use Rattle.std.proofs.lemmas.List.Sums.{sum_by-cons}
 use Rattle.outside_doors.specs.Counts.{DoorTold, added, has_ended}
-use Rattle.run_door_front.specs.Keeping.{lead_of, ListenerTold, rests_at}
-use Rattle.run_door_front.specs.NextSteps.{HasNotFallen, NobodyCame, GoesOn, IsTried, AllGoOn, AreTried, service_of, place_of}
+use Rattle.run_door_front.specs.Keeping.{lead_of, ListenerTold, rests_at, rests_in_a_row_at}
+use Rattle.run_door_front.specs.NextSteps.{HasNotFallen, NobodyCame, GoesOn, IsTried, AllGoOn, AreTried, IsTriedInARow, AreTriedInARow, wires_of, service_of, place_of}
 
 -- ---- one door
 
@@ -163,6 +163,59 @@ waits-on (p ∷ ps) (q ∷ qs) g =
     sum_not_fallen p.door.waits (sum_by (λ (p : ListenerTold). p.door.waits) ps) q.door.waits (sum_by (λ (p : ListenerTold). p.door.waits) qs)
     (sum_by (λ (p : ListenerTold). p.door.waits) (p ∷ ps)) (sum_by (λ (p : ListenerTold). p.door.waits) (q ∷ qs)) (2 ^ 64 - 1)
     (sum_by-cons (λ (p : ListenerTold). p.door.waits) p ps) (sum_by-cons (λ (p : ListenerTold). p.door.waits) q qs) g.0.waits (waits-on ps qs g.1)
+
+-- ---- where nobody came
+
+-- at none of these doors
+abbrev pub AllNobody : List ListenerTold → List ListenerTold → Type 0
+AllNobody [] [] = Unit {0}
+AllNobody [] (q ∷ qs) = ⊥
+AllNobody (p ∷ ps) [] = ⊥
+AllNobody (p ∷ ps) (q ∷ qs) = NobodyCame p q × AllNobody ps qs
+
+-- all of their wires do not fall
+wires-on : (ps qs : List ListenerTold) → AllGoOn ps qs → HasNotFallen (sum_by wires_of ps) (sum_by wires_of qs)
+wires-on [] [] g = not_fallen 0 (2 ^ 64 - 1)
+wires-on [] (q ∷ qs) g = absurd g
+wires-on (p ∷ ps) [] g = absurd g
+wires-on (p ∷ ps) (q ∷ qs) g =
+    sum_not_fallen p.door.wires (sum_by wires_of ps) q.door.wires (sum_by wires_of qs) (sum_by wires_of (p ∷ ps)) (sum_by wires_of (q ∷ qs)) (2 ^ 64 - 1)
+    (sum_by-cons wires_of p ps) (sum_by-cons wires_of q qs) g.0.wires (wires-on ps qs g.1)
+
+-- two counts whose sum is as it was are as they were
+parts_same : (p s q t m n cap : ℕ) → m ≡ p + s → n ≡ q + t → n ≡ m → m < cap → min p cap ≤ q → min s cap ≤ t → (q ≡ p) × (t ≡ s) × (p < cap) × (s < cap)
+parts_same p s q t m n cap a b e small h k = (omega arith, omega arith, omega arith, omega arith)
+
+pub all-nobody : (ps qs : List ListenerTold) → AllGoOn ps qs → sum_by wires_of qs ≡ sum_by wires_of ps → sum_by wires_of ps < 2 ^ 64 - 1 → AllNobody ps qs
+all-nobody [] [] g e small = tt
+all-nobody [] (q ∷ qs) g e small = absurd g
+all-nobody (p ∷ ps) [] g e small = absurd g
+all-nobody (p ∷ ps) (q ∷ qs) g e small =
+    let same = parts_same p.door.wires (sum_by wires_of ps) q.door.wires (sum_by wires_of qs) (sum_by wires_of (p ∷ ps)) (sum_by wires_of (q ∷ qs)) (2 ^ 64 - 1)
+    (sum_by-cons wires_of p ps) (sum_by-cons wires_of q qs) e small g.0.wires (wires-on ps qs g.1) in
+    ((same.0, same.2), all-nobody ps qs g.1 same.1 same.3)
+
+-- all of their rests in a row do not fall
+pub rows-on : (ps qs : List ListenerTold) → AllGoOn ps qs → AllNobody ps qs → HasNotFallen (rests_in_a_row_at ps) (rests_in_a_row_at qs)
+rows-on [] [] g n = not_fallen 0 (2 ^ 64 - 1)
+rows-on [] (q ∷ qs) g n = absurd g
+rows-on (p ∷ ps) [] g n = absurd g
+rows-on (p ∷ ps) (q ∷ qs) g n =
+    sum_not_fallen p.door.rests_in_a_row (rests_in_a_row_at ps) q.door.rests_in_a_row (rests_in_a_row_at qs)
+    (rests_in_a_row_at (p ∷ ps)) (rests_in_a_row_at (q ∷ qs)) (2 ^ 64 - 1)
+    (sum_by-cons (λ (p : ListenerTold). p.door.rests_in_a_row) p ps) (sum_by-cons (λ (p : ListenerTold). p.door.rests_in_a_row) q qs)
+    (g.0.rests_row n.0) (rows-on ps qs g.1 n.1)
+
+-- each that was tried was tried once more in a row
+pub tried-in_a_row : (ps qs : List ListenerTold) → AllNobody ps qs → AreTried ps qs → AreTriedInARow ps qs
+tried-in_a_row [] [] n t = tt
+tried-in_a_row [] (q ∷ qs) n t = absurd n
+tried-in_a_row (p ∷ ps) [] n t = absurd n
+tried-in_a_row (p ∷ ps) (q ∷ qs) n t = (one t.0, tried-in_a_row ps qs n.1 t.1)
+  where
+    one : IsTried p q → IsTriedInARow p q
+    one (inl done) = inl done
+    one (inr more) = inr (more.1 n.0)
 
 -- one door more
 pub all-push : (ps qs : List ListenerTold) (p q : ListenerTold) → AllGoOn ps qs → GoesOn p q → AllGoOn (ps ++ p ∷ []) (qs ++ q ∷ [])
