@@ -38,7 +38,7 @@ or_other true false = refl
 or_other false true = refl
 or_other false false = refl
 
-or_further : (a b c : Bool) → a || (b || c) ≡ (a || b) || c
+pub or_further : (a b c : Bool) → a || (b || c) ≡ (a || b) || c
 or_further true b c = refl
 or_further false b c = refl
 

@@ -51,7 +51,10 @@ fn drain<D: Door + Drop>(
     let mut still = 0;
     loop {
         let Wrote { writes, moved } = write_all(connections)?;
-        if !writes || left == 0 || is_quiet(still, moved) {
+        if !writes {
+            return Ok(());
+        }
+        if left == 0 || is_quiet(still, moved) {
             return Ok(());
         }
         still = still_after(still, moved);
