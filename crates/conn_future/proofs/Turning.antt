@@ -1,5 +1,5 @@
 -- What a turn comes to, and the calls of its wire.
-use Rattle.std.proofs.Common.{◌≡◌, ◌≤◌, ◌<◌, ◌^◌, ◌⊎◌, inl, inr, ℕ, List, [], ◌∷◌, ◌++◌, length, take, sym, refl, ap, ◌∙◌, subst, arith}
+use Rattle.std.proofs.Common.{◌≡◌, ◌≢◌, ◌≤◌, ◌<◌, ◌^◌, ◌⊎◌, inl, inr, ℕ, List, [], ◌∷◌, ◌++◌, length, take, sym, refl, ap, ◌∙◌, subst, arith}
 use Rattle.std.specs.Prelude.{Option, Result, Ok, Err, IfOk}
 use Rattle.std.proofs.lemmas.List.{length-take-le}
 use Rattle.outside_traits.specs.Told.{Lists, WireTold}
@@ -21,7 +21,7 @@ use Rattle.conn_future.specs.declared.turn.Turn.{Turn}
 use Rattle.conn_future.specs.declared.turn.Turn.TheVariants as Turns
 use Rattle.conn_future.specs.Stages.{IsMoving, IsUnanswered, IsOver, IsAtRest, stage_behind, stage_of}
 use Rattle.conn_future.specs.Talking.{Seen, plain, IsTalking, TalksOn, StaysPrompt}
-use Rattle.conn_future.specs.Steps.{unmade, left_to_do, CallsOn, IsSame, LeavesLess, Stops}
+use Rattle.conn_future.specs.Steps.{unmade, left_to_do, passed_on, CallsOn, IsSame, KeepsRow, LeavesLess, Stops}
 
 -- ---- waits
 
@@ -73,6 +73,45 @@ any_less (Err e) was now h = tt
 pub over_less : (turn : Turn) (was now : Kept) → turn ≡ Turns.Over → LeavesLess turn was now
 over_less turn was now e = subst (λ t. LeavesLess t was now) (sym e) tt
 
+-- ---- rows of answers
+
+-- a turn moved something
+any_turn_row : (turn : Turn) (before row : ℕ) (was now : Kept) → turn ≢ Turns.Waits → passed_on was < passed_on now → KeepsRow turn before row was now
+any_turn_row Turns.GoesOn before row was now n h = inr h
+any_turn_row Turns.Waits before row was now n h = absurd (n refl)
+any_turn_row Turns.Owes before row was now n h = tt
+any_turn_row Turns.Over before row was now n h = tt
+
+pub any_row : {E : Type 0} (result : Result Turn E) (before row : ℕ) (was now : Kept) → IfOk result (λ turn. turn ≢ Turns.Waits)
+    → passed_on was < passed_on now → IfOk result (λ turn. KeepsRow turn before row was now)
+any_row (Ok turn) before row was now n h = any_turn_row turn before row was now n h
+any_row (Err e) before row was now n h = tt
+
+-- a turn that does not go on
+pub over_row : (turn : Turn) (before row : ℕ) (was now : Kept) → turn ≡ Turns.Over → KeepsRow turn before row was now
+over_row turn before row was now e = subst (λ t. KeepsRow t before row was now) (sym e) tt
+
+-- what was read and written is as it was
+pub same_passed : (was now : Kept) → IsSame was now → passed_on now ≡ passed_on was
+same_passed was now s = let r = ap length s.read in let w = ap length s.written in omega (arith, r, w)
+
+-- turns in a row that go on
+pub row_on : (first before row : ℕ) (was mid now : Kept) → ((before ≡ first) × (passed_on mid ≡ passed_on was)) ⊎ (passed_on was < passed_on mid)
+    → KeepsRow Turns.GoesOn before row mid now → ((row ≡ first) × (passed_on now ≡ passed_on was)) ⊎ (passed_on was < passed_on now)
+row_on first before row was mid now (inl still) (inl same) = inl (same.0 ∙ still.0, same.1 ∙ still.1)
+row_on first before row was mid now (inl still) (inr more) = inr (omega (arith, still.1, more))
+row_on first before row was mid now (inr moved) (inl same) = inr (omega (arith, moved, same.1))
+row_on first before row was mid now (inr moved) (inr more) = inr (omega (arith, moved, more))
+
+-- and one that waits, where no byte passed in all
+pub row_once : (first before row : ℕ) (was mid now : Kept) → ((before ≡ first) × (passed_on mid ≡ passed_on was)) ⊎ (passed_on was < passed_on mid)
+    → KeepsRow Turns.Waits before row mid now → length now.read.items ≡ length was.read.items → length now.written.items ≡ length was.written.items
+    → row ≡ once_more first
+row_once first before row was mid now (inl still) once read written = once.0 ∙ ap once_more still.0
+row_once first before row was mid now (inr moved) once read written = absurd (omega (arith, moved, once.1, read, written))
+
+-- ---- answers
+
 -- no answer is owed then
 pub unowed : (next : Standing) → unmade next ≡ 0 → stage_of next ≡ Stages.Owes → ⊥
 unowed Stands.Waits e o = cc
@@ -108,6 +147,11 @@ writes_unrested (inr (inr (inr (inr e)))) = cc
 pub unrested : (stage : Stage) → IsMoving stage → IsAtRest stage → ⊥
 unrested stage (inl e) r = reads_unrested (subst IsAtRest e r)
 unrested stage (inr e) r = writes_unrested (subst IsAtRest e r)
+
+-- one that is spent neither reads nor writes
+pub spent_unmoving : IsMoving Stages.Spent → ⊥
+spent_unmoving (inl e) = cc
+spent_unmoving (inr e) = cc
 
 -- one that was at rest stays as it was
 pub rests_on : {W : Type 0} (was mid now : Kept) (w x y : W) → (IsAtRest (stage_of was.next) → (mid ≡ was) × (x ≡ w))

@@ -73,6 +73,20 @@ impl<H: Net + Clock + Eprint + Copy + Drop> DoorWire<H> {
         self.waits
     }
 
+    /// How often in a row it has answered so up to now.
+    pub fn in_a_row(&self) -> u64
+        ensures { result ≡ self.now.in_a_row }
+    {
+        self.in_a_row
+    }
+
+    /// How often in its longest row.
+    pub fn longest(&self) -> u64
+        ensures { result ≡ self.now.longest }
+    {
+        self.longest
+    }
+
     /// Whether a read has failed.
     pub fn is_lost(&self) -> bool
         ensures { result ≡ self.now.read_failed }
