@@ -85,6 +85,7 @@ link_told IsMade parts t l after v a h = record {
   stage = refl;
   memory = λ e. (let clash : Stages.Writes ≡ Stages.Spent = sym a.tells.writes ∙ e in cc);
   owes = subst (λ o. OwesAt o (stage_of after.seen.kept.next)) (sym a.paid) (λ e. (let clash : Stages.Writes ≡ Stages.Owes = sym a.tells.writes ∙ e in cc));
+  row = subst (λ n. n ≤ after.longest) (sym a.row) (subst (λ n. l.in_a_row ≤ n) (sym a.longest) h.row);
   first = h.first;
   made = h.made;
   fresh = h.fresh;

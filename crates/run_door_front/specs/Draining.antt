@@ -7,7 +7,7 @@ use Rattle.conn_future.specs.declared.stage.Stage.TheVariants as Stages
 use Rattle.run_theorem.specs.Lines.{most_waits}
 use Rattle.run_door_front.specs.Keeping.{ListenerTold, ClientTold, stage_at, rests_at}
 use Rattle.run_door_front.specs.NextSteps.{HasNotFallen, ClientGoesOn, ClientsGoOn}
-use Rattle.run_door_front.specs.Rounds.{has_moved, most_rests}
+use Rattle.run_door_front.specs.Moving.{has_moved}
 
 -- a text goes out at this stage
 abbrev pub writes_at : Stage → Bool
@@ -57,13 +57,17 @@ AreRested (p ∷ ps) (q ∷ qs) =
     × HasNotFallen p.door.rests q.door.rests × HasNotFallen p.door.rests_in_a_row q.door.rests_in_a_row
     × AreRested ps qs
 
--- Connections went on until what was due was written, or as often in a row as a run looks nothing moved on any of them on
--- which a text goes out. Where one still does there was a rest as often, if there is a door. Where the front halted
--- nothing was done.
+-- the most rests of one drain
+abbrev pub most_rests : ℕ
+most_rests = 2 ^ 64 - 1
+
+-- Connections went on until what was due was written, or until as often in a row as a run looks nothing moved on any of
+-- them on which a text goes out; or, if there is a door, until there had been the most rests. Where a text still goes out
+-- there was a rest as often as a run looks, if there is a door. Where the front halted nothing was done.
 pub record Drains (halted : Bool) (first later : List ListenerTold) (before now : List ClientTold) : Type 0 where
   pub doors : AreRested first later
   pub connections : ClientsGoOn before now
-  pub drained : halted ≡ false → HaveDrained now ⊎ (most_rests ≤ rests_at later)
+  pub drained : halted ≡ false → HaveDrained now ⊎ (0 < length first → most_rests ≤ rests_at later)
   pub rests : halted ≡ false → any_writing now ≡ true → 0 < length first
       → added (rests_at first) most_waits ≤ rests_at later
   pub undone : halted ≡ true → (later ≡ first) × (now ≡ before)

@@ -9,7 +9,6 @@ use Rattle.conn_future.specs.declared.stage.Stage.TheVariants as Stages
 use Rattle.conn_future.specs.Stages.{stage_of}
 use Rattle.conn_future.specs.Talking.{Seen}
 pub use Rattle.run_theorem.specs.Ports.{Lead, is_of_door, is_led}
-use Rattle.run_theorem.specs.Lines.{most_waits}
 pub use Rattle.run_theorem.specs.Through.{most_open}
 use Rattle.run_door_front.specs.declared.link.PendingReply.{PendingReply}
 
@@ -161,9 +160,9 @@ rests_at doors = sum_by (λ (p : ListenerTold). p.door.rests) doors
 abbrev pub rests_in_a_row_at : List ListenerTold → ℕ
 rests_in_a_row_at doors = sum_by (λ (p : ListenerTold). p.door.rests_in_a_row) doors
 
--- a door has ended, or the last that it answered is, as often in a row as a run looks, that nobody has come yet
-abbrev pub is_quiet : ListenerTold → Bool
-is_quiet port = has_ended port.door || nat_le most_waits port.door.waits_in_a_row
+-- a door has ended, or the last that it answered is, so often in a row, that nobody has come yet
+abbrev pub is_quiet : ℕ → ListenerTold → Bool
+is_quiet often port = has_ended port.door || nat_le often port.door.waits_in_a_row
 
 -- no connection can come any more: as many were accepted as may be, or each door has ended
 abbrev pub closed_off : ℕ → List ListenerTold → List ClientTold → Bool

@@ -10,7 +10,6 @@ use Rattle.office_core.specs.declared.front.Posting.{Posting}
 use Rattle.run_theorem.specs.declared.front.Next.{Next}
 use Rattle.run_theorem.specs.declared.front.Next.TheVariants as next
 use Rattle.run_theorem.specs.Calls.{most_postings}
-use Rattle.run_theorem.specs.Lines.{most_waits}
 use Rattle.run_theorem.specs.Texts.{posting_of}
 use Rattle.run_theorem.specs.RunConnections.{came_with}
 use Rattle.conn_future.specs.declared.stage.Stage.TheVariants as Stages
@@ -19,7 +18,8 @@ use Rattle.conn_future.specs.Talking.{IsTalking, TalksOn}
 use Rattle.outside_traits.specs.Told.{WireTold}
 use Rattle.run_door_front.specs.Keeping.{ListenerTold, ClientTold, Keeping, Lead, lead_of, is_led, rests_at, wires_to}
 use Rattle.run_door_front.specs.Keeping.{leads_to, AreLed, stage_at, is_open, asks, owes, asks_there, IsOrdered}
-use Rattle.run_door_front.specs.Keeping.{closed_off, rests_in_a_row_at, is_quiet}
+use Rattle.run_door_front.specs.Keeping.{closed_off, rests_in_a_row_at}
+use Rattle.run_door_front.specs.Moving.{any_moved, HaveWaited}
 use Rattle.run_door_front.specs.Exchanged.{IsNewLine, most_open}
 
 -- ---- doors
@@ -32,14 +32,15 @@ HasNotFallen before now = min before (2 ^ 64 - 1) ≤ now
 abbrev pub NobodyCame : ListenerTold → ListenerTold → Type 0
 NobodyCame before now = (now.door.wires ≡ before.door.wires) × (before.door.wires < 2 ^ 64 - 1)
 
--- A door goes on: its service and its place stay, an end stays, and its waits and rests do not fall. At one that has
--- ended nothing is done but to rest.
+-- A door goes on: its service and its place stay, an end stays, and its wires, waits and rests do not fall; where nobody
+-- came, nor do its waits and rests in a row. At one that has ended nothing is done but to rest.
 pub record GoesOn (before now : ListenerTold) : Type 0 where
   pub service : now.service ≡ before.service
   pub place : now.door.place ≡ before.door.place
   pub ended : has_ended before.door ≡ true → has_ended now.door ≡ true
   pub untried : has_ended before.door ≡ true
       → now.door ≡ record before.door { rests = now.door.rests; rests_in_a_row = now.door.rests_in_a_row }
+  pub wires : HasNotFallen before.door.wires now.door.wires
   pub waits : HasNotFallen before.door.waits now.door.waits
   pub rests : HasNotFallen before.door.rests now.door.rests
   pub row : NobodyCame before now → HasNotFallen before.door.waits_in_a_row now.door.waits_in_a_row
@@ -64,6 +65,18 @@ AreTried [] [] = Unit {0}
 AreTried [] (q ∷ qs) = ⊥
 AreTried (p ∷ ps) [] = ⊥
 AreTried (p ∷ ps) (q ∷ qs) = IsTried p q × AreTried ps qs
+
+-- a door has ended, or it answered once more in a row that nobody has come yet
+abbrev pub IsTriedInARow : ListenerTold → ListenerTold → Type 0
+IsTriedInARow before now =
+    (has_ended now.door ≡ true) ⊎ (added before.door.waits_in_a_row 1 ≤ now.door.waits_in_a_row)
+
+-- the same of each
+abbrev pub AreTriedInARow : List ListenerTold → List ListenerTold → Type 0
+AreTriedInARow [] [] = Unit {0}
+AreTriedInARow [] (q ∷ qs) = ⊥
+AreTriedInARow (p ∷ ps) [] = ⊥
+AreTriedInARow (p ∷ ps) (q ∷ qs) = IsTriedInARow p q × AreTriedInARow ps qs
 
 -- how many wires a door gave
 abbrev pub wires_of : ListenerTold → ℕ
@@ -110,7 +123,7 @@ pub record IsNewClient (IsMade : WireTold → Type 0) (link : ClientTold) : Type
   pub pending : link.pending ≡ None
   pub unowed : stage_at link ≢ Stages.Owes
   pub memory : stage_at link ≢ Stages.Spent
-  pub no_row : link.in_a_row ≡ 0
+  pub row : link.in_a_row ≤ link.longest
   pub first : WireTold
   pub made : IsMade first
   pub fresh : IsNewLine first
@@ -376,6 +389,28 @@ pub record Goes (IsMade : WireTold → Type 0) (most : ℕ) (before now : Going)
   pub led : sum_by wires_of before.doors ≡ length before.connections
       → AreLed before.doors before.connections → AreLed now.doors now.connections
 
+-- Nothing comes of a connection for now, whose wire had waited so often before: it waits for an answer, it is over, or
+-- its wire could move nothing yet.
+abbrev pub HasPaused : ℕ → ClientTold → Type 0
+HasPaused waits now = (stage_at now ≡ Stages.Owes) ⊎ (IsOver (stage_at now) ⊎ (added waits 1 ≤ now.waits))
+
+-- the same of each connection, of old ones and of those that came
+abbrev pub HavePaused : List ClientTold → List ClientTold → Type 0
+HavePaused [] [] = Unit {0}
+HavePaused [] (m ∷ ms) = HasPaused 0 m × HavePaused [] ms
+HavePaused (l ∷ ls) [] = ⊥
+HavePaused (l ∷ ls) (m ∷ ms) = HasPaused l.waits m × HavePaused ls ms
+
+-- They went on, and nothing comes for now: no request is whole, nothing comes of any connection, and nobody comes at
+-- any door, or there is no more room.
+pub record Rests (IsMade : WireTold → Type 0) (most : ℕ) (before now : Going) : Type 0 where
+  pub goes : Goes IsMade most before now
+  pub none : now.queue ≡ []
+  pub paused : HavePaused before.connections now.connections
+  pub tried : (has_room most (length now.connections) (count_by is_open now.connections) ≡ false)
+      ⊎ AreTried before.doors now.doors
+  pub some : (closed_off most now.doors now.connections && all_owing now.connections) ≡ false
+
 -- They went on until nothing comes any more: no request is whole, no connection can come, and each that is open waits
 -- for an answer.
 pub record Ends (IsMade : WireTold → Type 0) (most : ℕ) (before now : Going) : Type 0 where
@@ -395,37 +430,36 @@ pub record Posts (IsMade : WireTold → Type 0) (most : ℕ) (p : Posting) (befo
   pub doors : now.doors ≡ mid.doors
   pub opened : now.opened ≡ mid.opened
 
--- A connection waits for an answer, the last that its wire answered is, as often in a row as a run looks, that it can
--- move nothing yet, or it is over.
-abbrev pub IsQuietLink : ClientTold → Type 0
-IsQuietLink link = (stage_at link ≡ Stages.Owes) ⊎ (IsOver (stage_at link) ⊎ (most_waits ≤ link.in_a_row))
+-- There was a rest, at the first door that has not ended, or else at the first of all.
+pub record HasRested (before now : List ListenerTold) : Type 0 where
+  pub mid : List ListenerTold
+  pub rested : now ≡ after_rest mid
+  pub goes : AllGoOn before mid
 
--- the same of each
-abbrev pub AllQuiet : List ClientTold → Type 0
-AllQuiet [] = Unit {0}
-AllQuiet (l ∷ ls) = IsQuietLink l × AllQuiet ls
+-- Nobody came or went, and nothing moved. Where there were as many wires as connections, each door has ended or answered
+-- once more in a row that nobody has come yet, unless there was no more room, and there was once more in a row a rest.
+pub record IsStill (most : ℕ) (before now : Going) : Type 0 where
+  pub as_many : length now.connections ≡ length before.connections
+  pub as_open : count_by is_open now.connections ≡ count_by is_open before.connections
+  pub unmoved : any_moved before.connections now.connections ≡ false
+  pub waited : HaveWaited before.connections now.connections
+  pub tried : sum_by wires_of before.doors ≡ length before.connections
+      → (has_room most (length now.connections) (count_by is_open now.connections) ≡ false)
+      ⊎ AreTriedInARow before.doors now.doors
+  pub rests : sum_by wires_of before.doors ≡ length before.connections
+      → added (rests_in_a_row_at before.doors) 1 ≤ rests_in_a_row_at now.doors
 
--- Nothing came any more, by what doors and wires count themselves: there were as many rests as a run looks in a row, at
--- each door since somebody came there last, nobody came at any in as many tries in a row unless there was no more room,
--- and nothing came of any connection.
-pub record IsQuietNow (most : ℕ) (now : Going) : Type 0 where
-  pub rests : most_waits ≤ rests_in_a_row_at now.doors
-  pub doors : (has_room most (length now.connections) (count_by is_open now.connections) ≡ false)
-      ⊎ (list_all is_quiet now.doors ≡ true)
-  pub connections : AllQuiet now.connections
+-- They went on without a posting, which may still come, and there was a rest.
+pub record Stays (IsMade : WireTold → Type 0) (most : ℕ) (before now : Going) : Type 0 where
+  pub rests : Rests IsMade most before now
+  pub rested : HasRested before.doors now.doors
+  pub more : sum_by wires_of before.doors ≡ length before.connections → added (rests_at before.doors) 1 ≤ rests_at now.doors
 
--- They went on until nothing came any more, or until there had been the most rests.
-pub record FallsQuiet (IsMade : WireTold → Type 0) (most : ℕ) (before now : Going) : Type 0 where
-  pub goes : Goes IsMade most before now
-  pub none : now.queue ≡ []
-  pub some : (closed_off most now.doors now.connections && all_owing now.connections) ≡ false
-  pub why : IsQuietNow most now ⊎ (2 ^ 64 - 1 ≤ rests_at now.doors)
-
--- What the call came to: the posting of the request that stands first in the queue, or nothing any more. It never comes
--- to nothing yet. The premise is what the doors gave.
+-- What the call came to: the posting of the request that stands first in the queue, none yet while something moved or
+-- nothing did, or nothing any more.
 abbrev pub Looks : (WireTold → Type 0) → ℕ → Next → Going → Going → Type 0
 Looks IsMade most (next.Posting p) before now = Posts IsMade most p before now
-Looks IsMade most next.NotYet before now = ⊥
+Looks IsMade most next.Moved before now = Stays IsMade most before now
+Looks IsMade most next.NotYet before now = Stays IsMade most before now × IsStill most before now
 Looks IsMade most next.End before now =
     ((most_postings ≤ length before.traffics) × (now ≡ before)) ⊎ Ends IsMade most before now
-    ⊎ (sum_by wires_of before.doors ≡ length before.connections → FallsQuiet IsMade most before now)

@@ -1,16 +1,20 @@
 //! What is due is written before the connections come back.
-ghost use Rattle.std.specs.Prelude.{◌≡◌, IfOk};
+ghost use Rattle.std.specs.Prelude.{◌≡◌, ◌-◌, ◌^◌, ◌<◌, ◌&&◌, suc, not, nat_eq, if◌then◌else◌, IfOk};
+ghost use Rattle.run_theorem.specs.Lines.{most_waits};
 ghost use Rattle.run_door_front.specs.Draining.{AreWritten, Drains, WritesOn, is_writing as writing, any_writing};
-ghost use Rattle.run_door_front.specs.Rounds.{has_moved, any_moved};
+ghost use Rattle.run_door_front.specs.Moving.{has_moved, any_moved};
 
 use crate::kept::Kept;
 use crate::link::Client;
-use crate::next::{is_quiet, rest, still_after};
+use crate::next::rest;
 use crate::port::Listener;
 use conn_future::Stage;
 use outside_doors::Door;
 use outside_polling::PollWire;
 use std::alloc::AllocError;
+
+/// The most rests in a row after which nothing moves.
+const MOST_RESTS: u32 = 1_000_000;
 
 /// What a try at writing came to: whether a text still goes out, and whether bytes moved.
 #[derive(Clone, Copy)]
@@ -47,13 +51,34 @@ fn drain<D: Door + Drop>(
     let mut still = 0;
     loop {
         let Wrote { writes, moved } = write_all(connections)?;
-        if !writes || left == 0 || is_quiet(still, moved) {
+        if !writes {
+            return Ok(());
+        }
+        if left == 0 || is_quiet(still, moved) {
             return Ok(());
         }
         still = still_after(still, moved);
         rest(doors);
         left -= 1;
     }
+}
+
+/// Whether nothing moved after as many rests in a row as may be.
+fn is_quiet(still: u32, moved: bool) -> bool
+    ensures { result ≡ (not moved && nat_eq still most_waits) }
+{
+    !moved && still == MOST_RESTS
+}
+
+/// After how many rests in a row nothing moved, after a turn in which bytes moved or not.
+fn still_after(still: u32, moved: bool) -> u32
+    requires { still < 2 ^ 32 - 1 }
+    ensures { result ≡ (if moved then 0 else suc still) }
+{
+    if moved {
+        return 0;
+    }
+    still + 1
 }
 
 /// Polls the connections on which a text goes out. It says whether one still does, and whether bytes moved.

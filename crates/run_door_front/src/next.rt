@@ -1,7 +1,6 @@
 //! The next posting of a front over doors.
 ghost use Rattle.std.specs.Prelude.{◌≡◌, ◌&&◌, ◌||◌, ◌∷◌, [], nat_lt, true, false, IfOk, OnOk, IsErr, MatchOption};
-ghost use Rattle.std.specs.Prelude.{MatchResult, ◌-◌, ◌^◌, ◌<◌, suc, not, nat_eq, if◌then◌else◌};
-ghost use Rattle.run_theorem.specs.Lines.{most_waits};
+ghost use Rattle.std.specs.Prelude.{MatchResult};
 ghost use Rattle.std.specs.List.{list_all};
 ghost use Rattle.outside_doors.specs.Counts.{has_ended};
 ghost use Rattle.run_door_front.specs.Keeping.{ListenerTold, IsOrdered, closed_off, owes_there};
@@ -20,9 +19,6 @@ use std::alloc::{AllocError, Global};
 
 /// The most postings of a front.
 const MOST_POSTINGS: usize = 4_294_967_295;
-
-/// The most rests in a row after which nothing comes.
-const MOST_LOOKS: u32 = 1_000_000;
 
 impl<D: Door + Drop> Kept<D> {
     /// The next posting, as a front gives it that this is lent to. After want of memory nothing is sent of what
@@ -59,8 +55,8 @@ impl<D: Door + Drop> Kept<D> {
     }
 }
 
-/// Takes in who comes and polls all open connections, until a request is whole or nothing comes any more: since nobody
-/// can, or since nothing came after as many rests in a row as a run looks.
+/// Takes in who comes and polls all open connections, until a request is whole or nothing comes any more, or until
+/// nobody came or went; then it rests once.
 fn look<D: Door + Drop>(
     alloc: Global,
     doors: &mut [Listener<D>],
@@ -81,8 +77,7 @@ fn look<D: Door + Drop>(
     if MOST_POSTINGS <= traffics.len() {
         return Ok(Next::End);
     }
-    let mut left = u64::MAX;
-    let mut still = 0;
+    let mut changed = false;
     loop {
         let known = connections.len();
         accept_all(alloc, doors, connections, opened, most)?;
@@ -95,34 +90,15 @@ fn look<D: Door + Drop>(
             return Ok(Next::End);
         }
         if has_changed(known, connections.len(), among, opened.len()) {
-            still = 0;
+            changed = true;
             continue;
         }
-        if left == 0 || is_quiet(still, moved) {
-            return Ok(Next::End);
-        }
-        still = still_after(still, moved);
         rest(doors);
-        left -= 1;
+        if changed || moved {
+            return Ok(Next::Moved);
+        }
+        return Ok(Next::NotYet);
     }
-}
-
-/// Whether nothing moved after as many rests in a row as a run looks.
-pub(crate) fn is_quiet(still: u32, moved: bool) -> bool
-    ensures { result ≡ (not moved && nat_eq still most_waits) }
-{
-    !moved && still == MOST_LOOKS
-}
-
-/// After how many rests in a row nothing moved, after a turn in which bytes moved or not.
-pub(crate) fn still_after(still: u32, moved: bool) -> u32
-    requires { still < 2 ^ 32 - 1 }
-    ensures { result ≡ (if moved then 0 else suc still) }
-{
-    if moved {
-        return 0;
-    }
-    still + 1
 }
 
 /// Whether there are more connections than were known, or fewer are open than were.

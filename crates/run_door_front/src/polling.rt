@@ -6,7 +6,8 @@ ghost use Rattle.conn_future.specs.declared.stage.Stage.TheVariants as Stages;
 ghost use Rattle.run_door_front.specs.Keeping.{IsOrdered, asks as asking, asks_there, is_open_there};
 ghost use Rattle.run_door_front.specs.NextSteps.{Answers, Hands, IsPolled, IsPolledAt, Polls, PollsAll, lined};
 ghost use Rattle.run_door_front.specs.NextSteps.{queued, listing};
-ghost use Rattle.run_door_front.specs.Rounds.{read_on, written_on, has_moved, any_moved, HasWaited, HaveWaited};
+ghost use Rattle.run_door_front.specs.Moving.{read_on, written_on, has_moved, any_moved, HasWaited, HaveWaited};
+ghost use Rattle.run_door_front.specs.Moving.{HaveWaitedAt};
 
 use crate::link::{Client, PendingReply};
 use conn_future::Stage;
@@ -60,7 +61,8 @@ fn poll_open<W: PollWire + Drop>(
     ensures { IfOk result (λ moved. Polls opened.now
         (lined connections.old.items queue.old.items)
         (lined connections.new.items queue.new.items)
-        × (moved ≡ any_moved connections.old.items connections.new.items)) }
+        × (moved ≡ any_moved connections.old.items connections.new.items)
+        × HaveWaitedAt opened.now connections.old.items connections.new.items) }
 {
     let mut moved = false;
     for number in opened {
@@ -79,7 +81,7 @@ fn poll_at<W: PollWire + Drop>(
     ensures { IfOk result (λ moved. (at : IsPolledAt number
         (lined connections.old.items queue.old.items)
         (lined connections.new.items queue.new.items))
-        × (moved ≡ has_moved at.link at.later)) }
+        × (moved ≡ has_moved at.link at.later) × HasWaited at.link at.later) }
 {
     let Polled { moved, asks } = connections[number].poll()?;
     if asks {
