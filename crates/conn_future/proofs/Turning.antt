@@ -1,11 +1,12 @@
 -- What a turn comes to, and the calls of its wire.
-use Rattle.std.proofs.Common.{◌≡◌, ◌≢◌, ◌≤◌, ◌<◌, ◌^◌, ◌⊎◌, inl, inr, ℕ, List, [], ◌∷◌, ◌++◌, length, take, sym, refl, ap, ◌∙◌, subst, arith}
+use Rattle.std.proofs.Common.{◌≡◌, ◌≢◌, ◌≤◌, ◌<◌, ◌^◌, ◌⊎◌, inl, inr, ℕ, Bool, true, false, if◌then◌else◌, nat_lt, List, [], ◌∷◌, ◌++◌, length, take, sym, refl, ap, ◌∙◌, subst, arith}
 use Rattle.std.specs.Prelude.{Option, Result, Ok, Err, IfOk}
+use Rattle.std.proofs.lemmas.Bool.{ltb-true, ltb-false}
 use Rattle.std.proofs.lemmas.List.{length-take-le}
 use Rattle.outside_traits.specs.Told.{Lists, WireTold}
 use Rattle.outside_traits.specs.declared.calls.WireCall.{WireCall}
 use Rattle.outside_traits.specs.declared.calls.WireCall.TheVariants.{Wrote}
-use Rattle.outside_polling.specs.Polls.{once_more}
+use Rattle.outside_polling.specs.Polls.{PollTold, greater, once_more, waited}
 use Rattle.http_connection.specs.Talking.{log_of}
 use Rattle.http_connection.specs.Prompt.{OnlyWrites}
 use Rattle.http_connection.specs.Steps.{Called}
@@ -21,7 +22,7 @@ use Rattle.conn_future.specs.declared.turn.Turn.{Turn}
 use Rattle.conn_future.specs.declared.turn.Turn.TheVariants as Turns
 use Rattle.conn_future.specs.Stages.{IsMoving, IsUnanswered, IsOver, IsAtRest, stage_behind, stage_of}
 use Rattle.conn_future.specs.Talking.{Seen, plain, IsTalking, TalksOn, StaysPrompt}
-use Rattle.conn_future.specs.Steps.{unmade, left_to_do, passed_on, CallsOn, IsSame, KeepsRow, LeavesLess, Stops}
+use Rattle.conn_future.specs.Steps.{unmade, left_to_do, passed_on, CallsOn, HoldsLongest, IsSame, KeepsRow, LeavesLess, SameRows, Stops}
 
 -- ---- waits
 
@@ -110,6 +111,38 @@ pub row_once : (first before row : ℕ) (was mid now : Kept) → ((before ≡ fi
 row_once first before row was mid now (inl still) once read written = once.0 ∙ ap once_more still.0
 row_once first before row was mid now (inr moved) once read written = absurd (omega (arith, moved, once.1, read, written))
 
+-- a wire whose row ended, and one that goes on with it
+pub row_ended : (before now : PollTold) → now.in_a_row ≡ 0 → now.longest ≡ before.longest → HoldsLongest before now
+row_ended before now none same = record { later = omega (arith, same); holds = λ h. omega (arith, none) }
+
+greater_first : (a b : ℕ) → a ≤ greater a b
+greater_first a b = by_test (nat_lt a b) refl
+  where
+    by_test : (t : Bool) → nat_lt a b ≡ t → a ≤ (if t then b else a)
+    by_test true e = let l = ltb-true a b e in omega (arith, l)
+    by_test false e = omega arith
+
+greater_second : (a b : ℕ) → b ≤ greater a b
+greater_second a b = by_test (nat_lt a b) refl
+  where
+    by_test : (t : Bool) → nat_lt a b ≡ t → b ≤ (if t then b else a)
+    by_test true e = omega arith
+    by_test false e = ltb-false a b e
+
+pub row_goes : (before now : PollTold) → now ≡ waited before → HoldsLongest before now
+row_goes before now e = subst (HoldsLongest before) (sym e) (record {
+  later = greater_first before.longest (once_more before.in_a_row);
+  holds = λ h. greater_second before.longest (once_more before.in_a_row);
+})
+
+-- a wire whose rows are as they were, and calls in a row
+pub rows_kept : (before now : PollTold) → SameRows before now → HoldsLongest before now
+rows_kept before now s = let r = s.row in let l = s.longest in record { later = omega (arith, l); holds = λ h. omega (arith, r, l, h) }
+
+pub holds_on : (first before now : PollTold) → HoldsLongest first before → HoldsLongest before now → HoldsLongest first now
+holds_on first before now a b =
+    let x = a.later in let y = b.later in record { later = omega (arith, x, y); holds = λ h. b.holds (a.holds h) }
+
 -- ---- answers
 
 -- no answer is owed then
@@ -156,9 +189,9 @@ spent_unmoving (inr e) = cc
 -- one that was at rest stays as it was
 pub rests_on : {W : Type 0} (was mid now : Kept) (w x y : W) → (IsAtRest (stage_of was.next) → (mid ≡ was) × (x ≡ w))
     → (IsAtRest (stage_of mid.next) → (now ≡ mid) × (y ≡ x)) → IsAtRest (stage_of was.next) → (now ≡ was) × (y ≡ w)
-rests_on was mid now w x y first then r =
+rests_on was mid now w x y first onward r =
     let same = first r in
-    let stays = then (subst (λ (k : Kept). IsAtRest (stage_of k.next)) (sym same.0) r) in
+    let stays = onward (subst (λ (k : Kept). IsAtRest (stage_of k.next)) (sym same.0) r) in
     (stays.0 ∙ same.0, stays.1 ∙ same.1)
 
 -- ---- calls of the wire
@@ -186,14 +219,14 @@ nothing_called was now bodies texts s e =
 
 -- calls behind one another, in which no body was handed out and no text told
 pub calls_on : (was mid now : Seen) → TalksOn was mid → CallsOn was mid → CallsOn mid now → CallsOn was now
-calls_on was mid now talks called then = λ first bodies texts h.
+calls_on was mid now talks called onward = λ first bodies texts h.
     called_on was.line.calls mid.line.calls now.line.calls (log_of (plain was) bodies texts) (log_of (plain mid) bodies texts) (log_of (plain now) bodies texts) refl refl
-    (called first bodies texts h) (then first bodies texts (talks first bodies texts h))
+    (called first bodies texts h) (onward first bodies texts (talks first bodies texts h))
 
 pub prompt_on : (was mid now : Seen) → TalksOn was mid → CallsOn was mid → CallsOn mid now → StaysPrompt was now
-prompt_on was mid now talks called then = λ first bodies texts h.
+prompt_on was mid now talks called onward = λ first bodies texts h.
     is_prompt was.line.calls now.line.calls (log_of (plain was) bodies texts) (log_of (plain now) bodies texts)
-    (calls_on was mid now talks called then first bodies texts h)
+    (calls_on was mid now talks called onward first bodies texts h)
 
 -- ---- polls
 

@@ -1,5 +1,5 @@
 //! A connection, polled by hand from its first byte until it is over.
-ghost use Rattle.std.specs.Prelude.{◌≡◌, ◌≢◌, ◌++◌, ◌∷◌, [], length, List, ℕ, Option, MatchOption};
+ghost use Rattle.std.specs.Prelude.{◌≡◌, ◌≢◌, ◌≤◌, ◌++◌, ◌∷◌, [], length, List, ℕ, Option, MatchOption};
 ghost use Rattle.outside_traits.specs.Told.{WireTold};
 ghost use Rattle.http_connection.specs.Talking.{handed};
 ghost use Rattle.conn_future.specs.declared.stage.Stage.TheVariants as Stages;
@@ -84,6 +84,9 @@ impl<W: PollWire> ConnTask<W> {
             → length self.new.kept.read.items ≡ length self.old.kept.read.items
             → length self.new.kept.written.items ≡ length self.old.kept.written.items
             → (W.told self.new.wire).in_a_row ≡ once_more (W.told self.old.wire).in_a_row }
+        ensures longest { (W.told self.old.wire).longest ≤ (W.told self.new.wire).longest }
+        ensures within { (W.told self.old.wire).in_a_row ≤ (W.told self.old.wire).longest
+            → (W.told self.new.wire).in_a_row ≤ (W.told self.new.wire).longest }
     {
         loop {
             match take_turn(&mut self.wire, &mut self.kept) {

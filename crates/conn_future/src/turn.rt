@@ -3,7 +3,7 @@ ghost use Rattle.std.specs.Prelude.{◌≡◌, ◌≢◌, IfOk, OnErr};
 ghost use Rattle.http_port.specs.Talk.{answer as answer_text};
 ghost use Rattle.conn_future.specs.Stages.{stage_of, IsAtRest};
 ghost use Rattle.conn_future.specs.Talking.{seen, TalksOn};
-ghost use Rattle.conn_future.specs.Steps.{CallsOn, KeepsRow, Stops, LeavesLess, TakesUp, FollowsOn, IsOutOn, Finishes, IsMade, unmade};
+ghost use Rattle.conn_future.specs.Steps.{CallsOn, HoldsLongest, KeepsRow, Stops, LeavesLess, TakesUp, FollowsOn, IsOutOn, Finishes, IsMade, SameRows, unmade};
 ghost use Rattle.conn_future.specs.declared.stage.Stage.TheVariants as Stages;
 ghost use Rattle.conn_future.specs.declared.stage.Standing.TheVariants as Stands;
 ghost use Rattle.conn_future.specs.declared.turn.Turn.TheVariants as Turns;
@@ -47,6 +47,7 @@ pub(crate) fn take_turn<W: PollWire>(wire: &mut W, kept: &mut Kept) -> Result<Tu
     ensures less { IfOk result (λ turn. LeavesLess turn kept.old kept.new) }
     ensures row { IfOk result (λ turn. KeepsRow turn
         (W.told wire.old).in_a_row (W.told wire.new).in_a_row kept.old kept.new) }
+    ensures longest { HoldsLongest (W.told wire.old) (W.told wire.new) }
     ensures rests { IsAtRest (stage_of kept.old.next) → (kept.new ≡ kept.old) × (wire.new ≡ wire.old) }
     ensures owes { stage_of kept.new.next ≡ Stages.Owes → stage_of kept.old.next ≡ Stages.Owes }
 {
@@ -80,6 +81,7 @@ fn read_on<W: PollWire>(wire: &mut W, kept: &mut Kept) -> Result<Turn, AllocErro
     ensures less { IfOk result (λ turn. LeavesLess turn kept.old kept.new) }
     ensures row { IfOk result (λ turn. KeepsRow turn
         (W.told wire.old).in_a_row (W.told wire.new).in_a_row kept.old kept.new) }
+    ensures longest { HoldsLongest (W.told wire.old) (W.told wire.new) }
     ensures made { unmade kept.new.next ≡ 0 }
 {
     kept.stand(Standing::Spent);
@@ -133,6 +135,7 @@ fn write_on<W: PollWire>(wire: &mut W, kept: &mut Kept, close: bool) -> Result<T
     ensures less { IfOk result (λ turn. LeavesLess turn kept.old kept.new) }
     ensures row { IfOk result (λ turn. KeepsRow turn
         (W.told wire.old).in_a_row (W.told wire.new).in_a_row kept.old kept.new) }
+    ensures longest { HoldsLongest (W.told wire.old) (W.told wire.new) }
     ensures made { unmade kept.new.next ≡ 0 }
 {
     kept.stand(Standing::Spent);
@@ -168,6 +171,7 @@ fn go_behind<W: PollWire>(wire: &mut W, kept: &mut Kept, close: bool) -> Result<
     ensures spent { OnErr result (((W.told wire.new).waits ≡ (W.told wire.old).waits)
         × (kept.new.next ≡ Stands.Spent)) }
     ensures moves { IfOk result (λ turn. turn ≢ Turns.Waits) }
+    ensures rows { SameRows (W.told wire.old) (W.told wire.new) }
     ensures made { unmade kept.new.next ≡ 0 }
 {
     if !kept.due.is_out() {
@@ -232,6 +236,7 @@ fn finish<W: PollWire>(wire: &mut W, kept: &mut Kept, ending: Ending) -> Turn
     ensures waits { (W.told wire.new).waits ≡ (W.told wire.old).waits }
     ensures calls { (W.told wire.new).wire.calls ≡ (W.told wire.old).wire.calls }
     ensures ended { (W.told wire.new).wire.ended ≡ (W.told wire.old).wire.ended }
+    ensures rows { SameRows (W.told wire.old) (W.told wire.new) }
 {
     wire.close();
     kept.stand(Standing::Over(ending));

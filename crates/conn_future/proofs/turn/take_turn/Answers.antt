@@ -4,7 +4,7 @@ use Rattle.conn_future.specs.Stages.{stage_of}
 use Rattle.conn_future.specs.Talking.{seen}
 use Rattle.conn_future.specs.Steps.{unmade}
 use Rattle.conn_future.proofs.Writing.{responds, responds_not}
-use Rattle.conn_future.proofs.Turning.{nothing_called, over_stops, made_less, same_passed, unowed, unrested}
+use Rattle.conn_future.proofs.Turning.{nothing_called, over_stops, made_less, same_passed, rows_kept, unowed, unrested}
 use Rattle.conn_future.proofs.turn.take_turn.Goals as goal
 
 pub returns-in-Holds-clause-talks : goal.returns-in-Holds-clause-talks
@@ -97,3 +97,21 @@ returns-in_ok-respond-in-Says-clause-owes g c = λ e. absurd (unowed _ (ap unmad
 
 pub returns-in_err-respond-in-Says-clause-owes : goal.returns-in_err-respond-in-Says-clause-owes
 returns-in_err-respond-in-Says-clause-owes g c = λ e. absurd (unowed _ (ap unmade c.in_err-respond-in-Says.ensures.made.1) e)
+
+pub returns-in-Holds-clause-longest : goal.returns-in-Holds-clause-longest
+returns-in-Holds-clause-longest g c = rows_kept _ _ (record { row = refl; longest = refl })
+
+pub returns-in-Owes-clause-longest : goal.returns-in-Owes-clause-longest
+returns-in-Owes-clause-longest g c = rows_kept _ _ (record { row = refl; longest = refl })
+
+pub returns-in-Over-clause-longest : goal.returns-in-Over-clause-longest
+returns-in-Over-clause-longest g c = rows_kept _ _ (record { row = refl; longest = refl })
+
+pub returns-in-Spent-clause-longest : goal.returns-in-Spent-clause-longest
+returns-in-Spent-clause-longest g c = rows_kept _ _ (record { row = refl; longest = refl })
+
+pub returns-in_err-respond-in-Says-clause-longest : goal.returns-in_err-respond-in-Says-clause-longest
+returns-in_err-respond-in-Says-clause-longest g c = rows_kept _ _ (record { row = refl; longest = refl })
+
+pub returns-in_ok-respond-in-Says-clause-longest : goal.returns-in_ok-respond-in-Says-clause-longest
+returns-in_ok-respond-in-Says-clause-longest g c = rows_kept _ _ (record { row = refl; longest = refl })
