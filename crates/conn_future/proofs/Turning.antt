@@ -189,9 +189,9 @@ spent_unmoving (inr e) = cc
 -- one that was at rest stays as it was
 pub rests_on : {W : Type 0} (was mid now : Kept) (w x y : W) → (IsAtRest (stage_of was.next) → (mid ≡ was) × (x ≡ w))
     → (IsAtRest (stage_of mid.next) → (now ≡ mid) × (y ≡ x)) → IsAtRest (stage_of was.next) → (now ≡ was) × (y ≡ w)
-rests_on was mid now w x y first then r =
+rests_on was mid now w x y first onward r =
     let same = first r in
-    let stays = then (subst (λ (k : Kept). IsAtRest (stage_of k.next)) (sym same.0) r) in
+    let stays = onward (subst (λ (k : Kept). IsAtRest (stage_of k.next)) (sym same.0) r) in
     (stays.0 ∙ same.0, stays.1 ∙ same.1)
 
 -- ---- calls of the wire
@@ -219,14 +219,14 @@ nothing_called was now bodies texts s e =
 
 -- calls behind one another, in which no body was handed out and no text told
 pub calls_on : (was mid now : Seen) → TalksOn was mid → CallsOn was mid → CallsOn mid now → CallsOn was now
-calls_on was mid now talks called then = λ first bodies texts h.
+calls_on was mid now talks called onward = λ first bodies texts h.
     called_on was.line.calls mid.line.calls now.line.calls (log_of (plain was) bodies texts) (log_of (plain mid) bodies texts) (log_of (plain now) bodies texts) refl refl
-    (called first bodies texts h) (then first bodies texts (talks first bodies texts h))
+    (called first bodies texts h) (onward first bodies texts (talks first bodies texts h))
 
 pub prompt_on : (was mid now : Seen) → TalksOn was mid → CallsOn was mid → CallsOn mid now → StaysPrompt was now
-prompt_on was mid now talks called then = λ first bodies texts h.
+prompt_on was mid now talks called onward = λ first bodies texts h.
     is_prompt was.line.calls now.line.calls (log_of (plain was) bodies texts) (log_of (plain now) bodies texts)
-    (calls_on was mid now talks called then first bodies texts h)
+    (calls_on was mid now talks called onward first bodies texts h)
 
 -- ---- polls
 

@@ -18,7 +18,7 @@ use Rattle.run_theorem.specs.Lines.{IsPrefix}
 use Rattle.run_theorem.specs.Texts.{Came as Incoming, call_in, posting_of}
 use Rattle.run_theorem.specs.RunConnections.{RunConnection, came_with}
 use Rattle.outside_traits.specs.Told.{WireTold}
-use Rattle.run_door_front.specs.Keeping.{is_led, leads_of, lead_of, Lead, ListenerTold, ClientTold, Keeping, services_of, rests_at, rests_in_a_row_at, is_quiet, is_open, closed_off, AreLed}
+use Rattle.run_door_front.specs.Keeping.{is_led, leads_of, lead_of, Lead, ListenerTold, Keeping, services_of, rests_at, rests_in_a_row_at, is_quiet, is_open, closed_off, AreLed}
 use Rattle.outside_traits.specs.Told.{SinkTold}
 use Rattle.run_door_front.specs.Exchanged.{most_open, Sides, sides_of, row_of, is_full, HadNone, GaveNone, HasSent, HasExchanged, PausedSo, MayHaveExchanged}
 use Rattle.run_door_front.specs.NextSteps.{service_of, place_of, wires_of, has_room, listing, Hands, going_of, Goes, Ends as EndsFront, Posts, IsStill, Stays, Looks}

@@ -1,5 +1,5 @@
 -- Whether bytes moved where connections are polled.
-use Rattle.std.proofs.Common.{◌≡◌, refl, sym, ap, ap₂, ◌∙◌, subst, arith, ℕ, zero, suc, ◌+◌, ◌-◌, ◌^◌, ◌<◌, ◌≤◌, Bool, true, false, not, cond, ◌||◌, ◌⊎◌, inl, inr, List, [], ◌∷◌, ◌++◌, length, take, get_or, Some, slice_get, slice_set, nat_eq}
+use Rattle.std.proofs.Common.{◌≡◌, refl, sym, ap, ap₂, ◌∙◌, subst, arith, ℕ, zero, suc, ◌+◌, ◌<◌, ◌≤◌, Bool, true, false, not, cond, ◌||◌, ◌⊎◌, inl, inr, List, [], ◌∷◌, ◌++◌, length, take, get_or, Some, slice_get, slice_set, nat_eq}
 use Rattle.std.specs.List.{list_any}
 use Rattle.std.proofs.lemmas.Bool.{true≢false}
 use Rattle.std.proofs.lemmas.Option.{none-some, same_Some, slice_get-get_or}
@@ -9,7 +9,7 @@ use Rattle.outside_doors.specs.Counts.{added}
 use Rattle.outside_polling.specs.Polls.{once_more}
 use Rattle.conn_future.specs.Stages.{IsMoving, IsUnanswered, IsOver}
 use Rattle.run_door_front.specs.Keeping.{ClientTold, stage_at, is_open, open_from, IsOrdered}
-use Rattle.run_door_front.specs.NextSteps.{Lined, IsPolledAt, ClientGoesOn, ClientsGoOn}
+use Rattle.run_door_front.specs.NextSteps.{Lined, IsPolledAt, ClientsGoOn}
 use Rattle.run_door_front.specs.Moving.{read_on, written_on, has_moved, any_moved, HasWaited, HaveWaited, HasWaitedAt, HaveWaitedAt}
 use Rattle.run_door_front.proofs.Entries.{nat_eq_same, nat_eq_is, get_set_same, get_set_other}
 use Rattle.run_door_front.proofs.Links.{clients-at}
@@ -186,7 +186,7 @@ waited-step numbers queue i d x y z o inside u at waited before =
     only false false h i = absurd (true≢false (sym h))
 
     by_number : (k : ℕ) → list_any (nat_eq k) (take i numbers ++ get_or numbers i d ∷ []) ≡ true → (b : Bool) → nat_eq (get_or numbers i d) k ≡ b → HasWaitedAt x.connections z.connections k
-    by_number k e true is = here k is
+    by_number k e true is link later was now = here k is link later was now
     by_number k e false is link later was now =
         let n = get_or numbers i d in
         before k (only (list_any (nat_eq k) (take i numbers)) (nat_eq k n) (sym (list_any-append (nat_eq k) (take i numbers) (n ∷ [])) ∙ e) (unlike n k is))

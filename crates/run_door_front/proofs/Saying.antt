@@ -16,7 +16,7 @@ use Rattle.behaviour_tree.specs.Data.{ProgramParts}
 use Rattle.behaviour_tree.specs.declared.words.Outcome.{Outcome}
 use Rattle.jsonrpc_text.specs.declared.message.Read.{Read}
 use Rattle.run_theorem.specs.Exchange.{Asked, Told, Received, Sent, Exchange, IsNew}
-use Rattle.run_theorem.specs.Calls.{After, Halts, IsDue, Tells, Notes, is_of, most_postings}
+use Rattle.run_theorem.specs.Calls.{After, Halts, IsDue, Tells, Notes, is_of}
 use Rattle.run_theorem.specs.Texts.{Came}
 use Rattle.run_theorem.specs.Lines.{IsPrefix}
 use Rattle.jsonrpc_postings.specs.Told.{came_for, response_told}

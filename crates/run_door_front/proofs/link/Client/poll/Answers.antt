@@ -14,7 +14,7 @@ returns-in-Pending g c =
     let y = c.poll.new.self in
     let now : ClientTold = record { service = x.service; seen = seen y.kept (told y.wire); waits = (told y.wire).waits; in_a_row = (told y.wire).in_a_row; longest = (told y.wire).longest; pending = x.pending } in (
       polled-pending was c.args.self.now now c.self.view_is refl refl
-          (λ r. let all = c.poll.ensures.rests r in (all.0, ap told all.1)) c.poll.ensures.owes c.in-Pending.ensures.talks ? ?
+          (λ r. let all = c.poll.ensures.rests r in (all.0, ap told all.1)) c.poll.ensures.owes c.in-Pending.ensures.talks c.poll.ensures.longest c.poll.ensures.within
           c.in-Pending.ensures.ends,
       c.polled.ensures.asks ∙ ap (λ b. not b && asks now) c.asks-asked.ensures,
       moved-so was c.args.self.now now _ _ _ c.self.view_is (ap length c.read-read.ensures) (ap length c.written-written.ensures) c.polled.ensures.moved,
@@ -29,7 +29,7 @@ returns-in-Ready-Ok g c =
     let y = c.poll.new.self in
     let now : ClientTold = record { service = x.service; seen = seen y.kept (told y.wire); waits = (told y.wire).waits; in_a_row = (told y.wire).in_a_row; longest = (told y.wire).longest; pending = x.pending } in (
       polled-over was c.args.self.now now c.self.view_is refl refl
-          (λ r. let all = c.poll.ensures.rests r in (all.0, ap told all.1)) c.poll.ensures.owes c.in-Ready-Ok.ensures.talks ? ?
+          (λ r. let all = c.poll.ensures.rests r in (all.0, ap told all.1)) c.poll.ensures.owes c.in-Ready-Ok.ensures.talks c.poll.ensures.longest c.poll.ensures.within
           (rw c.in-Ready-Ok.field-0-is at c.in-Ready-Ok.ensures.ends),
       c.polled-in-Ready-Ok.ensures.asks ∙ ap (λ b. not b && asks now) c.asks-asked.ensures,
       moved-so was c.args.self.now now _ _ _ c.self.view_is (ap length c.read-read.ensures) (ap length c.written-written.ensures) c.polled-in-Ready-Ok.ensures.moved,
