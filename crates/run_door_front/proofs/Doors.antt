@@ -154,16 +154,6 @@ rests-on (p ∷ ps) (q ∷ qs) g =
     sum_not_fallen p.door.rests (rests_at ps) q.door.rests (rests_at qs) (rests_at (p ∷ ps)) (rests_at (q ∷ qs)) (2 ^ 64 - 1)
     (sum_by-cons (λ (p : ListenerTold). p.door.rests) p ps) (sum_by-cons (λ (p : ListenerTold). p.door.rests) q qs) g.0.rests (rests-on ps qs g.1)
 
--- all of their waits do not fall
-pub waits-on : (ps qs : List ListenerTold) → AllGoOn ps qs → HasNotFallen (sum_by (λ (p : ListenerTold). p.door.waits) ps) (sum_by (λ (p : ListenerTold). p.door.waits) qs)
-waits-on [] [] g = not_fallen 0 (2 ^ 64 - 1)
-waits-on [] (q ∷ qs) g = absurd g
-waits-on (p ∷ ps) [] g = absurd g
-waits-on (p ∷ ps) (q ∷ qs) g =
-    sum_not_fallen p.door.waits (sum_by (λ (p : ListenerTold). p.door.waits) ps) q.door.waits (sum_by (λ (p : ListenerTold). p.door.waits) qs)
-    (sum_by (λ (p : ListenerTold). p.door.waits) (p ∷ ps)) (sum_by (λ (p : ListenerTold). p.door.waits) (q ∷ qs)) (2 ^ 64 - 1)
-    (sum_by-cons (λ (p : ListenerTold). p.door.waits) p ps) (sum_by-cons (λ (p : ListenerTold). p.door.waits) q qs) g.0.waits (waits-on ps qs g.1)
-
 -- ---- where nobody came
 
 -- at none of these doors

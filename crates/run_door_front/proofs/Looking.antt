@@ -376,16 +376,6 @@ module _ (IsMade : WireTold → Type 0) (most : ℕ) where
           | inr fit ↦ elim h [ inl here ↦ omega (arith, grown, wider, fewer, long, fit, here) | inr ended ↦ omega (arith, grown, wider, fewer, long, fit, ended) ]
         ]
 
-    -- nobody came and none ended
-    pub left-same : length links ≤ length y.connections → length among ≤ length opened → left most (going doors now opened queue y.traffics) ≡ left most y
-    left-same few many =
-        let nobody = nobody-came few in
-        let unended = none-ended many in
-        let grown = ap length a.takes.grown ∙ length-append y.connections a.takes.more in
-        let wider = a.takes.as_many in
-        let long = clients-long links now p.goes in
-        omega (arith, grown, wider, long, nobody, unended)
-
   -- ---- the order stays
 
   -- after a request was posted

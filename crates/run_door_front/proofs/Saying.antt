@@ -667,45 +667,45 @@ nothing_exchanged IsMade parts kept notes empty within = (
     notes_unfailed = refl;
   },
   inr (
-  record {
-    services = refl;
-    in_place = refl;
-    most = refl;
-    within = within;
-    connections = [];
-    clients = subst (λ ls. AreClients IsMade ls []) (sym empty.connections) tt;
-    came_in = no_wires kept.doors empty.doors ∙ sym (ap length empty.connections);
-    led = λ n. led-new n kept.doors empty.doors ∙ sym (ap (count_by (leads_to n)) empty.connections);
-    at_doors = refl;
-    accepted = subst (λ (ls : List ClientTold). length ls ≤ kept.most) (sym empty.connections) (omega arith);
-    all = record { asked = []; came = [] };
-    asked = refl;
-    traffics = sym empty.traffics;
-    taken = record { in_order = λ j q there. absurd (none_not_some q there); all = λ k connection there. absurd (none_not_some connection there) };
-    came = refl;
-    given = refl;
-    heard = [];
-    told = ([], refl);
-    all_told = λ _. refl;
-    heard_by = λ j n there. absurd (none_not_some n there);
-    places = refl;
-    answers = λ j q c connection asked. absurd (none_not_some q asked);
-    one_by_one = record { counts = refl; each = λ i j n q r there. absurd (none_not_some q there) };
-    sent = record {
-      notes = [];
-      written = Appends-nil notes.written;
-      noted = entire refl refl refl;
-      halted = sym empty.halted;
-      notes_failed = refl;
+    record {
+      services = refl;
+      in_place = refl;
+      most = refl;
+      within = within;
+      connections = [];
+      clients = subst (λ ls. AreClients IsMade ls []) (sym empty.connections) tt;
+      came_in = no_wires kept.doors empty.doors ∙ sym (ap length empty.connections);
+      led = λ n. led-new n kept.doors empty.doors ∙ sym (ap (count_by (leads_to n)) empty.connections);
+      at_doors = refl;
+      accepted = subst (λ (ls : List ClientTold). length ls ≤ kept.most) (sym empty.connections) (omega arith);
+      all = record { asked = []; came = [] };
+      asked = refl;
+      traffics = sym empty.traffics;
+      taken = record { in_order = λ j q there. absurd (none_not_some q there); all = λ k connection there. absurd (none_not_some connection there) };
+      came = refl;
+      given = refl;
+      heard = [];
+      told = ([], refl);
+      all_told = λ _. refl;
+      heard_by = λ j n there. absurd (none_not_some n there);
+      places = refl;
+      answers = λ j q c connection asked. absurd (none_not_some q asked);
+      one_by_one = record { counts = refl; each = λ i j n q r there. absurd (none_not_some q there) };
+      sent = record {
+        notes = [];
+        written = Appends-nil notes.written;
+        noted = entire refl refl refl;
+        halted = sym empty.halted;
+        notes_failed = refl;
+        faults = refl;
+      };
+      noted_by_then = ([], refl);
+      left = refl;
       faults = refl;
-    };
-    noted_by_then = ([], refl);
-    left = refl;
-    faults = refl;
-    seen = omega arith;
-    moved = none_counted (rests_at kept.doors) (2 ^ 64 - 1);
-  },
-  λ runs gave. absurd (not_asked gave),
+      seen = omega arith;
+      moved = none_counted (rests_at kept.doors) (2 ^ 64 - 1);
+    },
+    λ runs gave. absurd (not_asked gave),
   ),
 )
   where

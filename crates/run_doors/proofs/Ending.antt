@@ -1,7 +1,7 @@
 -- Why a run over doors asked for no posting any more, and what of its notes was written.
 use Rattle.std.proofs.Common.{◌≡◌, ◌<◌, ◌≤◌, ◌+◌, ◌-◌, ◌^◌, min, ℕ, suc, Bool, true, false, ◌||◌, List, [], ◌∷◌, length, map, take}
 use Rattle.std.proofs.Common.{refl, sym, ap, subst, ◌∙◌, arith, ◌⊎◌, inl, inr, ⊎_elim, true≢false, nat_eq, nat_le, count_by, slice_get}
-use Rattle.std.specs.List.{list_all, list_any, sum_by}
+use Rattle.std.specs.List.{list_all, list_any}
 use Rattle.std.specs.Io.KnownBytes.{Appends}
 use Rattle.std.proofs.lemmas.List.Sums.{sum_by-cons}
 use Rattle.outside_traits.specs.Causes.{Rose}
@@ -17,7 +17,6 @@ use Rattle.run_theorem.specs.Statuses.{Failed}
 use Rattle.run_alone.specs.Ran.{Exchanged, AreNotes, IsOver, GaveNone, finished_early, most_waits, most_moves}
 use Rattle.run_theorem.specs.RunConnections.{RunConnection}
 use Rattle.outside_traits.specs.Told.{SinkTold, WireTold}
-use Rattle.outside_polling.specs.Polls.{PollTold}
 use Rattle.conn_future.specs.Stages.{IsOver as IsOverAt}
 use Rattle.run_door_front.specs.Keeping.{ListenerTold, ClientTold, Keeping, no_more as no_more_kept, rests_at as rests_kept}
 use Rattle.run_door_front.specs.Keeping.{rests_in_a_row_at as rows_kept, is_quiet as is_quiet_kept}
@@ -185,8 +184,8 @@ module _ {new : Exchange} (IsMade : WireTold → Type 0) (parts : ProgramParts) 
           rests = subst (λ r. most_waits ≤ r) (sym (rows_by now.kept.doors)) (subst (λ m. m ≤ rows_kept now.kept.doors) row n.rested);
           doors =
               ⊎_elim (λ full. inl (sym (full_is now.kept f.connections n.pauses most is_most many) ∙ full))
-                  (λ still. inr (all_map is_quiet door_of now.kept.doors ∙ subst (λ m. list_all (is_quiet_kept m) now.kept.doors ≡ true) row still))
-                  n.quiet;
+              (λ still. inr (all_map is_quiet door_of now.kept.doors ∙ subst (λ m. list_all (is_quiet_kept m) now.kept.doors ≡ true) row still))
+              n.quiet;
         })
 
     -- there were the most looks at which something moved

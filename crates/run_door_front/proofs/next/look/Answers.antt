@@ -87,8 +87,8 @@ returns-then-is_done-clause-rounds g c =
     (ap₂ (λ ls ns. closed_off c.args.most came.doors ls && list_all (owes_there ls) ns) (sym c.deref.ensures.value) (sym c.deref-in-loop-opened.ensures.value)
     ∙ sym c.is_done.ensures ∙ c.if-is_done.true)
 
-pub loop-opened-preserved-then-has_changed : goal.loop-opened-preserved-then-has_changed
-loop-opened-preserved-then-has_changed g c =
+pub loop-opened-preserved : goal.loop-opened-preserved
+loop-opened-preserved g c =
     let x = going c.args.doors.now c.args.connections.now.items c.args.opened.now.items c.args.queue.now.items c.args.traffics.now.items in
     let at = c.loop-opened in
     let y = going at.doors at.connections.items at.opened.items at.queue.items at.traffics.items in
@@ -115,8 +115,8 @@ loop-opened-preserved-then-has_changed g c =
           so;
     }
 
-pub loop-opened-smaller-then-has_changed : goal.loop-opened-smaller-then-has_changed
-loop-opened-smaller-then-has_changed g c =
+pub loop-opened-smaller : goal.loop-opened-smaller
+loop-opened-smaller g c =
     let x = going c.args.doors.now c.args.connections.now.items c.args.opened.now.items c.args.queue.now.items c.args.traffics.now.items in
     let at = c.loop-opened in
     let y = going at.doors at.connections.items at.opened.items at.queue.items at.traffics.items in
