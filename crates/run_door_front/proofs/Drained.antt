@@ -1,7 +1,7 @@
 -- What is due is written.
-use Rattle.std.proofs.Common.{◌≡◌, ◌≢◌, refl, sym, ap, ap₂, ◌∙◌, subst, arith, ℕ, zero, suc, ◌+◌, ◌-◌, ◌^◌, ◌<◌, ◌≤◌, min, Bool, true, false, not, cond, ◌&&◌, ◌||◌, ◌⊎◌, inl, inr, List, [], ◌∷◌, ◌++◌, length, take, drop, set, get_or, nat_eq}
+use Rattle.std.proofs.Common.{◌≡◌, ◌≢◌, refl, sym, ap, ap₂, ◌∙◌, subst, arith, ℕ, zero, suc, ◌+◌, ◌-◌, ◌^◌, ◌<◌, ◌≤◌, min, Bool, true, false, not, cond, ◌&&◌, ◌||◌, ◌⊎◌, inl, inr, List, [], ◌∷◌, ◌++◌, length, take, drop, set, get_or, nat_eq, nat_lt}
 use Rattle.std.specs.List.{list_all}
-use Rattle.std.proofs.lemmas.Bool.{true≢false}
+use Rattle.std.proofs.lemmas.Bool.{ltb-true, ltb-false, true≢false}
 use Rattle.std.proofs.lemmas.List.{length-drop, take_more, take_more_set, take_all, drop_more, drop-drop, drop-set-lt}
 use Rattle.std.proofs.lemmas.List.Folds.{list_any-append}
 use Rattle.outside_doors.specs.Counts.{added, has_ended}
@@ -256,10 +256,15 @@ module _ (left still : ℕ) (first doors : List ListenerTold) (ls ms ns : List C
       rested_now = rested_further first doors later d.rested (subst (AreRested doors) (sym is) (rested_after doors))
 
       fewer : (a b : ℕ) → a ≤ b → nat_eq a b ≡ false → suc a ≤ b
-      fewer a b h e = at_most a b h (λ same. true≢false (sym (ap (nat_eq a) (sym same) ∙ nat_eq_same a) ∙ e))
+      fewer a b h e = by_less (nat_lt a b) refl
         where
-          at_most : (a b : ℕ) → a ≤ b → (a ≡ b → ⊥) → suc a ≤ b
-          at_most a b h other = omega (arith, h, other)
+          same : (a b : ℕ) → a ≤ b → b ≤ a → a ≡ b
+          same a b h k = omega arith
+
+          by_less : (t : Bool) → nat_lt a b ≡ t → suc a ≤ b
+          by_less true is = let less = ltb-true a b is in omega (arith, less)
+          by_less false is =
+              absurd (true≢false (sym (ap (nat_eq a) (sym (same a b h (ltb-false a b is))) ∙ nat_eq_same a) ∙ e))
 
       at_least : (a b : ℕ) → a ≤ b → suc a ≤ suc b
       at_least a b h = omega arith
@@ -319,9 +324,6 @@ module _ (left still : ℕ) (first doors : List ListenerTold) (ls ms ns : List C
         drained_by (inr quiet) =
             let h = both moved (nat_eq still most_waits) quiet in
             inl (all_still ns (rows_still still ms ns (nat_eq_is still most_waits h.1) small d.rows w (sym is_moved ∙ h.0)))
-
-        equal : (a b c : ℕ) → a ≡ b → b ≡ c → c ≤ a
-        equal a b c e f = omega arith
 
         rests_by : (left ≡ 0) ⊎ (not moved && nat_eq still most_waits ≡ true) → most_waits ≤ d.rests
         rests_by (inl none) = let all = counted-all d.rests left most_rests d.counted none in most_before d.rests (2 ^ 64 - 1) all small
