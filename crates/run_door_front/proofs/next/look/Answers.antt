@@ -192,7 +192,7 @@ returns-clause-looks g c =
     at.invariant.goes c.in_ok-accept_all.ensures.0 polls c.in_default.ensures.1
     (ap₂ (λ ls ns. closed_off c.args.most came.doors ls && list_all (owes_there ls) ns) (sym c.deref.ensures.value) (sym c.deref-in-loop-opened.ensures.value)
     ∙ sym c.is_done.ensures ∙ c.if-is_done.false) same.0 same.1 c.in_ok-moved.moved c.in_ok-moved.ensures.1 c.if-moved.false c.in_ok-moved.ensures.2 c.requires
-    (omega (arith, now.connections.small)) (at.invariant.turned.same c.if-changed.false) c.rest.new.doors c.rest.ensures
+    (omega (arith, now.connections.ok.0, now.connections.ok.1, now.connections.small)) (at.invariant.turned.same c.if-changed.false) c.rest.new.doors c.rest.ensures
 
 pub returns-clause-rounds : goal.returns-clause-rounds
 returns-clause-rounds g c =
