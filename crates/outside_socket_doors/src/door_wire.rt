@@ -1,4 +1,5 @@
 ghost use Rattle.std.specs.Prelude.{◌≡◌};
+ghost use Rattle.outside_polling.specs.Polls as spec;
 ghost use Rattle.outside_socket_doors.specs.Lines.{new_wire};
 
 use crate::line::Line;
@@ -18,6 +19,8 @@ pub struct DoorWire<H: Net + Clock + Eprint + Copy + Drop> {
     cut: bool,
     ended: bool,
     waits: u64,
+    in_a_row: u64,
+    longest: u64,
     door: u64,
 }
 
@@ -33,6 +36,8 @@ impl<H: Net + Clock + Eprint + Copy + Drop> Model for DoorWire<H> {
       ended = w.ended;
       closed = is_none w.line;
       waits = w.waits;
+      in_a_row = w.in_a_row;
+      longest = w.longest;
       door = w.door;
     } };
 }
@@ -48,6 +53,8 @@ impl<H: Net + Clock + Eprint + Copy + Drop> DoorWire<H> {
             cut: false,
             ended: false,
             waits: 0,
+            in_a_row: 0,
+            longest: 0,
             door,
         }
     }
@@ -64,6 +71,20 @@ impl<H: Net + Clock + Eprint + Copy + Drop> DoorWire<H> {
         ensures { result ≡ self.now.waits }
     {
         self.waits
+    }
+
+    /// How often in a row it has answered so up to now.
+    pub fn in_a_row(&self) -> u64
+        ensures { result ≡ self.now.in_a_row }
+    {
+        self.in_a_row
+    }
+
+    /// How often in its longest row.
+    pub fn longest(&self) -> u64
+        ensures { result ≡ self.now.longest }
+    {
+        self.longest
     }
 
     /// Whether a read has failed.
@@ -96,9 +117,14 @@ impl<H: Net + Clock + Eprint + Copy + Drop> PollWire for DoorWire<H> {
     fn try_read(&mut self, into: &mut [u8]) -> Result<Ready, Failed> {
         let has_room = !into.is_empty();
         let Some(line) = &mut self.line else {
+            self.in_a_row = 0;
             return Ok(Ready::Done(0));
         };
         let answer = line.try_read(into);
+        self.in_a_row = row_after(answer, self.in_a_row);
+        if self.longest < self.in_a_row {
+            self.longest = self.in_a_row;
+        }
         match answer {
             Ok(Ready::Done(count)) => self.ended |= has_room && count == 0,
             Ok(Ready::NotYet) => self.waits = self.waits.saturating_add(1),
@@ -109,9 +135,14 @@ impl<H: Net + Clock + Eprint + Copy + Drop> PollWire for DoorWire<H> {
 
     fn try_write(&mut self, from: &[u8]) -> Result<Ready, Failed> {
         let Some(line) = &mut self.line else {
+            self.in_a_row = 0;
             return Err(Failed);
         };
         let answer = line.try_write(from);
+        self.in_a_row = row_after(answer, self.in_a_row);
+        if self.longest < self.in_a_row {
+            self.longest = self.in_a_row;
+        }
         match answer {
             Ok(Ready::Done(_)) => {}
             Ok(Ready::NotYet) => self.waits = self.waits.saturating_add(1),
@@ -125,5 +156,16 @@ impl<H: Net + Clock + Eprint + Copy + Drop> PollWire for DoorWire<H> {
             line.shut();
         }
         self.line = None;
+    }
+}
+
+/// How often in a row a connection has answered that it can move nothing yet, after an answer.
+fn row_after(answer: Result<Ready, Failed>, before: u64) -> u64
+    ensures { result ≡ spec.row_after answer before }
+{
+    match answer {
+        Ok(Ready::NotYet) => before.saturating_add(1),
+        Ok(Ready::Done(_)) => 0,
+        Err(Failed) => 0,
     }
 }
