@@ -3,14 +3,16 @@ use Rattle.std.proofs.Common.{◌≡◌, refl, sym, ap, ap₂, ◌∙◌, subst,
 use Rattle.std.proofs.lemmas.Bool.{and_parts, ltb-true, ltb-false, true≢false}
 use Rattle.std.specs.List.{list_all, sum_by}
 use Rattle.conn_future.specs.declared.stage.Stage.TheVariants as Stages
+use Rattle.conn_future.specs.Stages.{IsOver, IsUnanswered}
+use Rattle.outside_doors.specs.Counts.{added}
 use Rattle.outside_traits.specs.Told.{WireTold}
 use Rattle.office_core.specs.declared.front.Posting.{Posting}
 use Rattle.run_theorem.specs.declared.front.Next.{Next}
 use Rattle.run_theorem.specs.declared.front.Next.TheVariants as nexts
 use Rattle.run_theorem.specs.Calls.{most_postings}
 use Rattle.run_door_front.specs.Keeping.{lead_of, Lead, ListenerTold, ClientTold, stage_at, is_open, asks_at, asks, owes, is_so, asks_there, owes_there, rests_at, rests_in_a_row_at, wires_to, leads_to, closed_off, IsOrdered}
-use Rattle.run_door_front.specs.NextSteps.{wires_of, all_owing, has_room, after_rest, AreNewLinks, NewInTurn, ClientsGoOn, LinksGoOn, AreTried, doorway, Accepts, lined, IsQueue, IsPaused, IsPausedAt, queued, PollsAll, Listing, listing, Hands, Going, going, Goes, HasPaused, HavePaused, Posts, AreTriedInARow, IsStill, Stays, Looks}
-use Rattle.run_door_front.specs.Moving.{any_moved, HaveWaited}
+use Rattle.run_door_front.specs.NextSteps.{wires_of, all_owing, has_room, after_rest, AreNewLinks, NewInTurn, ClientsGoOn, LinksGoOn, AreTried, doorway, Accepts, lined, IsQueue, IsPaused, IsPausedAt, queued, PollsAll, Listing, listing, Hands, Going, going, Goes, HasPaused, HavePaused, Posts, AreTriedInARow, HasPausedInARow, HavePausedInARow, IsStill, Stays, Looks}
+use Rattle.run_door_front.specs.Moving.{has_moved, any_moved, HaveWaited}
 use Rattle.run_door_front.proofs.Entries.{one_if, count_cons}
 use Rattle.run_door_front.proofs.Leading.{led-more}
 use Rattle.run_door_front.proofs.Doors.{leads-same, all-same, all-further, all_tried-since, rests-on, one_more, all-nobody, rows-on, tried-in_a_row}
@@ -45,6 +47,27 @@ has_paused waits m (inl (inl asking)) e = absurd (true≢false (sym (asks_so ask
     asks_so is = ap asks_at is
 has_paused waits m (inl (inr owing)) e = inl owing
 has_paused waits m (inr more) e = inr more
+
+-- the same in a row of each, where nothing moved
+paused_in_a_row : (ls ms : List ClientTold) → HaveWaited ls ms → any_moved ls ms ≡ false → ((k : ℕ) → asks_there ms k ≡ false) → HavePausedInARow ls ms
+paused_in_a_row [] [] w e none = tt
+paused_in_a_row [] (m ∷ ms) w e none = absurd w
+paused_in_a_row (l ∷ ls) [] w e none = absurd w
+paused_in_a_row (l ∷ ls) (m ∷ ms) w e none =
+    let both = neither (has_moved l m) (any_moved ls ms) e in
+    (one (w.0 both.0) (none 0), paused_in_a_row ls ms w.1 both.1 (λ k. none (suc k)))
+  where
+    neither : (a b : Bool) → a || b ≡ false → (a ≡ false) × (b ≡ false)
+    neither true b e = absurd (true≢false e)
+    neither false b e = (refl, e)
+
+    asks_so : stage_at m ≡ Stages.Asks → asks m ≡ true
+    asks_so is = ap asks_at is
+
+    one : IsUnanswered (stage_at m) ⊎ (IsOver (stage_at m) ⊎ (added l.in_a_row 1 ≤ m.in_a_row)) → asks m ≡ false → HasPausedInARow l m
+    one (inl (inl asking)) h = absurd (true≢false (sym (asks_so asking) ∙ h))
+    one (inl (inr owing)) h = inl owing
+    one (inr more) h = inr more
 
 none_fallen : (a cap : ℕ) → min 0 cap ≤ a
 none_fallen a cap = omega arith
@@ -325,7 +348,8 @@ module _ (IsMade : WireTold → Type 0) (most : ℕ) where
           as_many = clients-long links now p.goes ∙ nobody-came few;
           as_open = sym (open_long 0 now) ∙ sym (ap length p.ordered.in_order) ∙ unended ∙ as_wide ∙ ap length (g.ordered o).in_order ∙ open_long 0 y.connections;
           unmoved = ap (λ ls. any_moved ls now) (sym same_links) ∙ sym is_moved ∙ unmoved;
-          waited = subst (λ ls. HaveWaited ls now) same_links waited;
+          paused = subst (λ ls. HavePausedInARow ls now) same_links
+              (paused_in_a_row links now waited (sym is_moved ∙ unmoved) (none_asks now queue none p.ordered.queued));
           tried = full_or_tried;
           rests = λ h. one_more (rests_in_a_row_at y.doors) (rests_in_a_row_at doors) (rests_in_a_row_at (after_rest doors)) (2 ^ 64 - 1)
               (rows-on y.doors doors a.takes.goes (all-nobody y.doors doors a.takes.goes (wires_then h) (few_wires h))) (rows-rested doors (some_door h));

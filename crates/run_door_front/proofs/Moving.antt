@@ -1,5 +1,5 @@
 -- Whether bytes moved where connections are polled.
-use Rattle.std.proofs.Common.{◌≡◌, refl, sym, ap, ap₂, ◌∙◌, subst, arith, ℕ, zero, suc, ◌+◌, ◌-◌, ◌^◌, ◌<◌, ◌≤◌, Bool, true, false, not, cond, ◌||◌, ◌⊎◌, inl, inr, List, [], ◌∷◌, ◌++◌, length, take, get_or, Some, slice_get, slice_set, nat_eq}
+use Rattle.std.proofs.Common.{◌≡◌, refl, sym, ap, ap₂, ◌∙◌, subst, arith, ℕ, zero, suc, ◌+◌, ◌<◌, ◌≤◌, Bool, true, false, not, cond, ◌||◌, ◌⊎◌, inl, inr, List, [], ◌∷◌, ◌++◌, length, take, get_or, Some, slice_get, slice_set, nat_eq}
 use Rattle.std.specs.List.{list_any}
 use Rattle.std.proofs.lemmas.Bool.{true≢false}
 use Rattle.std.proofs.lemmas.Option.{none-some, same_Some, slice_get-get_or}
@@ -9,7 +9,7 @@ use Rattle.outside_doors.specs.Counts.{added}
 use Rattle.outside_polling.specs.Polls.{once_more}
 use Rattle.conn_future.specs.Stages.{IsMoving, IsUnanswered, IsOver}
 use Rattle.run_door_front.specs.Keeping.{ClientTold, stage_at, is_open, open_from, IsOrdered}
-use Rattle.run_door_front.specs.NextSteps.{Lined, IsPolledAt, ClientGoesOn, ClientsGoOn}
+use Rattle.run_door_front.specs.NextSteps.{Lined, IsPolledAt, ClientsGoOn}
 use Rattle.run_door_front.specs.Moving.{read_on, written_on, has_moved, any_moved, HasWaited, HaveWaited, HasWaitedAt, HaveWaitedAt}
 use Rattle.run_door_front.proofs.Entries.{nat_eq_same, nat_eq_is, get_set_same, get_set_other}
 use Rattle.run_door_front.proofs.Links.{clients-at}
@@ -162,19 +162,18 @@ pub waited-step : (numbers queue : List ℕ) (i d : ℕ) (x y z : Lined) → IsO
     → AreUnpolled (take i numbers) x.connections y.connections → (at : IsPolledAt (get_or numbers i d) y z) → HasWaited at.link at.later
     → HaveWaitedAt (take i numbers) x.connections y.connections → HaveWaitedAt (take (i + 1) numbers) x.connections z.connections
 waited-step numbers queue i d x y z o inside u at waited before =
-    subst (λ ns. HaveWaitedAt ns x.connections z.connections) (sym (take_more numbers i d inside)) (λ k e. by_number k e (nat_eq n k) refl)
+    subst (λ ns. HaveWaitedAt ns x.connections z.connections) (sym (take_more numbers i d inside)) (λ k e. by_number k e (nat_eq (get_or numbers i d) k) refl)
   where
-    abbrev n : ℕ
-    n = get_or numbers i d
-
-    there : slice_get numbers i ≡ Some n
+    there : slice_get numbers i ≡ Some (get_or numbers i d)
     there = slice_get-get_or numbers i d inside
 
-    fresh : list_any (nat_eq n) (take i numbers) ≡ false
-    fresh = subst (λ ns. slice_get ns i ≡ Some n → list_any (nat_eq n) (take i ns) ≡ false) (sym o.in_order) (not_before 0 x.connections i n) there
+    fresh : list_any (nat_eq (get_or numbers i d)) (take i numbers) ≡ false
+    fresh = subst (λ ns. slice_get ns i ≡ Some (get_or numbers i d) → list_any (nat_eq (get_or numbers i d)) (take i ns) ≡ false) (sym o.in_order)
+        (not_before 0 x.connections i (get_or numbers i d)) there
 
-    here : (k : ℕ) → nat_eq n k ≡ true → HasWaitedAt x.connections z.connections k
+    here : (k : ℕ) → nat_eq (get_or numbers i d) k ≡ true → HasWaitedAt x.connections z.connections k
     here k e link later was now =
+        let n = get_or numbers i d in
         let same : n ≡ k = nat_eq_is n k e in
         let is : at.link ≡ link = same_Some at.link link (sym at.there ∙ u n fresh ∙ ap (slice_get x.connections) same ∙ was) in
         let set : at.later ≡ later = same_Some at.later later
@@ -186,9 +185,10 @@ waited-step numbers queue i d x y z o inside u at waited before =
     only false true h i = absurd (true≢false i)
     only false false h i = absurd (true≢false (sym h))
 
-    by_number : (k : ℕ) → list_any (nat_eq k) (take i numbers ++ n ∷ []) ≡ true → (b : Bool) → nat_eq n k ≡ b → HasWaitedAt x.connections z.connections k
-    by_number k e true is = here k is
+    by_number : (k : ℕ) → list_any (nat_eq k) (take i numbers ++ get_or numbers i d ∷ []) ≡ true → (b : Bool) → nat_eq (get_or numbers i d) k ≡ b → HasWaitedAt x.connections z.connections k
+    by_number k e true is link later was now = here k is link later was now
     by_number k e false is link later was now =
+        let n = get_or numbers i d in
         before k (only (list_any (nat_eq k) (take i numbers)) (nat_eq k n) (sym (list_any-append (nat_eq k) (take i numbers) (n ∷ [])) ∙ e) (unlike n k is))
         link later was (sym (get_set_other y.connections n k at.later is) ∙ ap (λ ls. slice_get ls k) (sym at.set) ∙ now)
 

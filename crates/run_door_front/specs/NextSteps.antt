@@ -19,7 +19,7 @@ use Rattle.outside_traits.specs.Told.{WireTold}
 use Rattle.run_door_front.specs.Keeping.{ListenerTold, ClientTold, Keeping, Lead, lead_of, is_led, rests_at, wires_to}
 use Rattle.run_door_front.specs.Keeping.{leads_to, AreLed, stage_at, is_open, asks, owes, asks_there, IsOrdered}
 use Rattle.run_door_front.specs.Keeping.{closed_off, rests_in_a_row_at}
-use Rattle.run_door_front.specs.Moving.{any_moved, HaveWaited}
+use Rattle.run_door_front.specs.Moving.{any_moved}
 use Rattle.run_door_front.specs.Exchanged.{IsNewLine, most_open}
 
 -- ---- doors
@@ -436,13 +436,26 @@ pub record HasRested (before now : List ListenerTold) : Type 0 where
   pub rested : now ≡ after_rest mid
   pub goes : AllGoOn before mid
 
--- Nobody came or went, and nothing moved. Where there were as many wires as connections, each door has ended or answered
--- once more in a row that nobody has come yet, unless there was no more room, and there was once more in a row a rest.
+-- A connection waits for an answer, it is over, or its wire could move nothing yet once more in a row.
+abbrev pub HasPausedInARow : ClientTold → ClientTold → Type 0
+HasPausedInARow before now =
+    (stage_at now ≡ Stages.Owes) ⊎ (IsOver (stage_at now) ⊎ (added before.in_a_row 1 ≤ now.in_a_row))
+
+-- the same of each
+abbrev pub HavePausedInARow : List ClientTold → List ClientTold → Type 0
+HavePausedInARow [] [] = Unit {0}
+HavePausedInARow [] (m ∷ ms) = ⊥
+HavePausedInARow (l ∷ ls) [] = ⊥
+HavePausedInARow (l ∷ ls) (m ∷ ms) = HasPausedInARow l m × HavePausedInARow ls ms
+
+-- Nobody came or went, and nothing moved, so that nothing came of any connection, once more in a row. Where there were as
+-- many wires as connections nobody came at any door, once more in a row, unless there was no more room, and there was a
+-- rest, once more in a row.
 pub record IsStill (most : ℕ) (before now : Going) : Type 0 where
   pub as_many : length now.connections ≡ length before.connections
   pub as_open : count_by is_open now.connections ≡ count_by is_open before.connections
   pub unmoved : any_moved before.connections now.connections ≡ false
-  pub waited : HaveWaited before.connections now.connections
+  pub paused : HavePausedInARow before.connections now.connections
   pub tried : sum_by wires_of before.doors ≡ length before.connections
       → (has_room most (length now.connections) (count_by is_open now.connections) ≡ false)
       ⊎ AreTriedInARow before.doors now.doors

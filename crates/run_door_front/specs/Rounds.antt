@@ -1,6 +1,6 @@
 -- How a front over doors goes by whole rounds until its next posting.
 use Rattle.std.specs.Prelude.{◌≡◌, ◌⊎◌, ℕ, suc, ◌<◌, ◌≤◌, Bool, true, false, ◌&&◌, ◌||◌}
-use Rattle.std.specs.Prelude.{List, [], ◌∷◌, length, map, nat_lt}
+use Rattle.std.specs.Prelude.{[], ◌∷◌, length, map, nat_lt}
 use Rattle.office_core.specs.declared.front.Posting.{Posting}
 use Rattle.run_theorem.specs.declared.front.Next.{Next}
 use Rattle.run_theorem.specs.declared.front.Next.TheVariants as next

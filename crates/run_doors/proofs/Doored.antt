@@ -363,7 +363,7 @@ doored_by IsMade most_accepted t before mid after ports failed o first now begin
     let f : HasExchanged IsMade t.parts first then d =
     exchanged_later IsMade t.parts first now.kept now.notes d c.ports c.connections c.drains.doors c.drains.connections whole.0 in
     let paused : PausedSo true then.kept d =
-    paused_later IsMade t.parts first now.kept now.notes d c.ports c.connections c.drains.doors c.drains.connections whole.1 in
+    paused_later IsMade t.parts first now.kept now.notes d c.ports c.connections c.drains.doors c.drains.connections whole.0 whole.1 in
     let halted : now.kept.halted ≡ d.sent.halted = sym whole.0.sent.halted in
     let drained : d.sent.halted ≡ false → HaveDrained c.connections ⊎ (2 ^ 64 - 1 ≤ rests_at c.ports)
     = λ running. drained_so now.kept.doors c.ports c.connections c.drains.doors f.came_in (c.drains.drained (halted ∙ running)) in
