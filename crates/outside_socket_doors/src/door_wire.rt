@@ -107,6 +107,19 @@ impl<H: Net + Clock + Eprint + Copy + Drop> DoorWire<H> {
     {
         self.ended
     }
+
+    /// Counts an answer that it can move nothing yet.
+    fn add_wait(&mut self)
+        ensures { self.new ≡ record self.old {
+          waits = spec.once_more self.old.waits;
+          in_a_row = spec.once_more self.old.in_a_row;
+          longest = spec.greater self.old.longest (spec.once_more self.old.in_a_row);
+        } }
+    {
+        self.waits = self.waits.saturating_add(1);
+        self.in_a_row = self.in_a_row.saturating_add(1);
+        self.longest = greater(self.longest, self.in_a_row);
+    }
 }
 
 impl<H: Net + Clock + Eprint + Copy + Drop> PollWire for DoorWire<H> {
@@ -121,14 +134,16 @@ impl<H: Net + Clock + Eprint + Copy + Drop> PollWire for DoorWire<H> {
             return Ok(Ready::Done(0));
         };
         let answer = line.try_read(into);
-        self.in_a_row = row_after(answer, self.in_a_row);
-        if self.longest < self.in_a_row {
-            self.longest = self.in_a_row;
-        }
         match answer {
-            Ok(Ready::Done(count)) => self.ended |= has_room && count == 0,
-            Ok(Ready::NotYet) => self.waits = self.waits.saturating_add(1),
-            Err(Failed) => self.lost = true,
+            Ok(Ready::Done(count)) => {
+                self.in_a_row = 0;
+                self.ended |= has_room && count == 0;
+            }
+            Ok(Ready::NotYet) => self.add_wait(),
+            Err(Failed) => {
+                self.in_a_row = 0;
+                self.lost = true;
+            }
         }
         answer
     }
@@ -139,14 +154,13 @@ impl<H: Net + Clock + Eprint + Copy + Drop> PollWire for DoorWire<H> {
             return Err(Failed);
         };
         let answer = line.try_write(from);
-        self.in_a_row = row_after(answer, self.in_a_row);
-        if self.longest < self.in_a_row {
-            self.longest = self.in_a_row;
-        }
         match answer {
-            Ok(Ready::Done(_)) => {}
-            Ok(Ready::NotYet) => self.waits = self.waits.saturating_add(1),
-            Err(Failed) => self.cut = true,
+            Ok(Ready::Done(_)) => self.in_a_row = 0,
+            Ok(Ready::NotYet) => self.add_wait(),
+            Err(Failed) => {
+                self.in_a_row = 0;
+                self.cut = true;
+            }
         }
         answer
     }
@@ -159,13 +173,12 @@ impl<H: Net + Clock + Eprint + Copy + Drop> PollWire for DoorWire<H> {
     }
 }
 
-/// How often in a row a connection has answered that it can move nothing yet, after an answer.
-fn row_after(answer: Result<Ready, Failed>, before: u64) -> u64
-    ensures { result ≡ spec.row_after answer before }
+/// The greater of two counts.
+fn greater(a: u64, b: u64) -> u64
+    ensures { result ≡ spec.greater a b }
 {
-    match answer {
-        Ok(Ready::NotYet) => before.saturating_add(1),
-        Ok(Ready::Done(_)) => 0,
-        Err(Failed) => 0,
+    if a < b {
+        return b;
     }
+    a
 }
