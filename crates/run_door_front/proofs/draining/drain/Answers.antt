@@ -6,29 +6,29 @@ use Rattle.run_door_front.proofs.draining.drain.Goals as goal
 pub returns-then-halted : goal.returns-then-halted
 returns-then-halted g c = draining-halted c.args.doors.now c.args.connections.now c.args.halted c.if-halted.true
 
-pub loop-init : goal.loop-init
-loop-init g c = draining-none _ c.args.doors.now c.args.connections.now refl
+pub loop-writes-init : goal.loop-writes-init
+loop-writes-init g c = draining-none _ c.args.doors.now c.args.connections.now refl
 
 pub returns-then-not-writes : goal.returns-then-not-writes
 returns-then-not-writes g c =
-    draining-written c.loop.left c.loop.still c.args.doors.now c.loop.doors c.args.connections.now c.loop.connections c.write_all.new.connections
-    c.loop.invariant c.in_ok-writes.ensures.2 _ c.in_ok-writes.ensures.1 c.args.halted c.if-halted.false _ c.in_ok-writes.ensures.0 c.if-not-writes.true
+    draining-written c.loop-writes.left c.loop-writes.still c.args.doors.now c.loop-writes.doors c.args.connections.now c.loop-writes.connections c.write_all.new.connections
+    c.loop-writes.invariant c.in_ok-writes.ensures.2 _ c.in_ok-writes.ensures.1 c.args.halted c.if-halted.false _ c.in_ok-writes.ensures.0 c.if-not-writes.true
 
 pub returns-then-left-eq0 : goal.returns-then-left-eq0
 returns-then-left-eq0 g c =
-    draining-through c.loop.left c.loop.still c.args.doors.now c.loop.doors c.args.connections.now c.loop.connections c.write_all.new.connections
-    c.loop.invariant c.in_ok-writes.ensures.2 _ c.in_ok-writes.ensures.1 c.args.halted c.if-halted.false
+    draining-through c.loop-writes.left c.loop-writes.still c.args.doors.now c.loop-writes.doors c.args.connections.now c.loop-writes.connections c.write_all.new.connections
+    c.loop-writes.invariant c.in_ok-writes.ensures.2 _ c.in_ok-writes.ensures.1 c.args.halted c.if-halted.false
     (elim c.then-left-eq0.either [ inl none ↦ inl none | inr both ↦ inr (sym c.is_quiet.ensures ∙ both.1) ])
 
 -- there are not so many in a row that one more is no number
 pub still_after-requires : goal.still_after-requires
-still_after-requires g c = let bound = c.loop.invariant.bound in omega (arith, bound)
+still_after-requires g c = let bound = c.loop-writes.invariant.bound in omega (arith, bound)
 
-pub loop-preserved : goal.loop-preserved
-loop-preserved g c =
-    draining-more c.loop.left c.loop.still c.args.doors.now c.loop.doors c.args.connections.now c.loop.connections c.write_all.new.connections
-    c.loop.invariant c.in_ok-writes.ensures.2 _ c.in_ok-writes.ensures.1 _ c.is_quiet.ensures c.if-is_quiet.false
+pub loop-writes-preserved : goal.loop-writes-preserved
+loop-writes-preserved g c =
+    draining-more c.loop-writes.left c.loop-writes.still c.args.doors.now c.loop-writes.doors c.args.connections.now c.loop-writes.connections c.write_all.new.connections
+    c.loop-writes.invariant c.in_ok-writes.ensures.2 _ c.in_ok-writes.ensures.1 _ c.is_quiet.ensures c.if-is_quiet.false
     (λ e. absurd (omega (arith, e, c.if-left-eq0.false))) c.rest.new.doors c.rest.ensures _ c.still_after.ensures
 
-pub loop-smaller : goal.loop-smaller
-loop-smaller g c = omega (arith, c.if-left-eq0.false)
+pub loop-writes-smaller : goal.loop-writes-smaller
+loop-writes-smaller g c = omega (arith, c.if-left-eq0.false)

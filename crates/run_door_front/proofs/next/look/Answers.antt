@@ -174,8 +174,8 @@ returns-then-changed-clause-rounds g c =
     ∙ sym c.is_done.ensures ∙ c.if-is_done.false) same.0 same.1 c.in_ok-moved.moved c.in_ok-moved.ensures.1
     (elim c.then-changed.either [ inl before ↦ inl before | inr both ↦ inr both.1 ]) c.rest.new.doors c.rest.ensures
 
-pub returns-clause-looks : goal.returns-clause-looks
-returns-clause-looks g c =
+pub returns-in-loop-opened-clause-looks : goal.returns-in-loop-opened-clause-looks
+returns-in-loop-opened-clause-looks g c =
     let x = going c.args.doors.now c.args.connections.now.items c.args.opened.now.items c.args.queue.now.items c.args.traffics.now.items in
     let at = c.loop-opened in
     let y = going at.doors at.connections.items at.opened.items at.queue.items at.traffics.items in
@@ -194,8 +194,8 @@ returns-clause-looks g c =
     ∙ sym c.is_done.ensures ∙ c.if-is_done.false) same.0 same.1 c.in_ok-moved.moved c.in_ok-moved.ensures.1 c.if-moved.false c.in_ok-moved.ensures.2 c.requires
     (omega (arith, now.connections.ok.0, now.connections.ok.1, now.connections.small)) (at.invariant.turned.same c.if-changed.false) c.rest.new.doors c.rest.ensures
 
-pub returns-clause-rounds : goal.returns-clause-rounds
-returns-clause-rounds g c =
+pub returns-in-loop-opened-clause-rounds : goal.returns-in-loop-opened-clause-rounds
+returns-in-loop-opened-clause-rounds g c =
     let x = going c.args.doors.now c.args.connections.now.items c.args.opened.now.items c.args.queue.now.items c.args.traffics.now.items in
     let at = c.loop-opened in
     let y = going at.doors at.connections.items at.opened.items at.queue.items at.traffics.items in
