@@ -25,7 +25,7 @@ pub record IsAt (new : Exchange) (s : State) (xs : List Wait) (n : ℕ) (unfaile
   pub since : new.received.faults ≤ d.received.faults
   pub waits : d.received.waits ≡ looks
   pub few : looks ≤ most_waits
-  pub moves : d.received.moves ≡ moves
+  pub moved : d.received.moves ≡ moves
   pub few_moves : moves ≤ most_moves
   pub going : d.received.ended ≡ false
   pub notes_failed : unfailed ≡ false → d.sent.notes_failed ≡ true
@@ -56,7 +56,7 @@ at_first d passed new = record {
   since = le_refl d.received.faults;
   waits = new.waits;
   few = omega arith;
-  moves = new.unmoved;
+  moved = new.unmoved;
   few_moves = omega arith;
   going = new.open_yet;
   notes_failed = λ e. absurd (false≢true (sym e));
@@ -143,7 +143,7 @@ module _ {new : Exchange} {s : State} {xs : List Wait} {n : ℕ} {unfailed : Boo
               (le_trans x.since (asked.2).came.faults);
           waits = looked.0;
           few = omega arith;
-          moves = ap (λ (b : Received). b.moves) (taken.2).sent.received ∙ (asked.2).came.moves ∙ x.moves;
+          moved = ap (λ (b : Received). b.moves) (taken.2).sent.received ∙ (asked.2).came.moves ∙ x.moved;
           few_moves = x.few_moves;
           going = looked.1;
           notes_failed = (taken.2).notes_failed;
@@ -163,7 +163,7 @@ module _ {new : Exchange} {s : State} {xs : List Wait} {n : ℕ} {unfailed : Boo
           since = le_trans x.since (asked.2).came.none.faults;
           waits = w.1;
           few = omega arith;
-          moves = (asked.2).came.moves ∙ ap (λ m. suc m) x.moves ∙ one;
+          moved = (asked.2).came.moves ∙ ap (λ m. suc m) x.moved ∙ one;
           few_moves = omega (arith, few);
           going = w.2;
           notes_failed = λ e. ap (λ (d : Sent). d.notes_failed) (asked.2).silent ∙ x.notes_failed e;
@@ -183,7 +183,7 @@ module _ {new : Exchange} {s : State} {xs : List Wait} {n : ℕ} {unfailed : Boo
           since = le_trans x.since (asked.2).came.none.faults;
           waits = w.1 ∙ ap (λ m. suc m) x.waits ∙ one;
           few = omega (arith, few);
-          moves = (asked.2).came.moves ∙ x.moves;
+          moved = (asked.2).came.moves ∙ x.moved;
           few_moves = x.few_moves;
           going = w.2;
           notes_failed = λ e. ap (λ (d : Sent). d.notes_failed) (asked.2).silent ∙ x.notes_failed e;
@@ -209,8 +209,8 @@ module _ {new : Exchange} {s : State} {xs : List Wait} {n : ℕ} {unfailed : Boo
       )
 
 -- no look is left, and there were none too many
-all_looks : (most looks : ℕ) → most ≤ looks → looks ≤ most → looks ≡ most
-all_looks most looks least few = omega (arith, least, few)
+all_looks : (cap looks : ℕ) → cap ≤ looks → looks ≤ cap → looks ≡ cap
+all_looks cap looks least few = omega (arith, least, few)
 
 -- why none is asked for
 abbrev pub Stops : ℕ → Bool → ℕ → ℕ → Exchange → Type 0
@@ -237,7 +237,7 @@ at_stop {new = new} {n = n} {unfailed = unfailed} {looks = looks} {moves = moves
     over (inl e) = inr (inl (still_halted d.sent.notes_failed d.sent.halted x.passed.mutes (x.notes_failed e)))
     over (inr (inl e)) = inr (inl e)
     over (inr (inr (inl e))) = inr (inr (inl (x.waits ∙ all_looks most_waits looks e x.few)))
-    over (inr (inr (inr (inl e)))) = inr (inr (inr (inl (x.moves ∙ all_looks most_moves moves e x.few_moves))))
+    over (inr (inr (inr (inl e)))) = inr (inr (inr (inl (x.moved ∙ all_looks most_moves moves e x.few_moves))))
     over (inr (inr (inr (inr e)))) = inr (inr (inr (inr (subst (λ (m : ℕ). most_postings ≤ m) (sym x.passed.count) e))))
 
 -- why none was asked for

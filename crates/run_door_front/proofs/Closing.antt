@@ -48,7 +48,7 @@ all_rested f same [] (q ∷ qs) g = absurd g
 all_rested f same (p ∷ ps) [] g = absurd g
 all_rested f same (p ∷ ps) (q ∷ qs) g = ap₂ (λ a b. a && b) (ap f g.0 ∙ same p q.door.rests q.door.rests_in_a_row) (all_rested f same ps qs g.3)
 
-rests_rested : (ps qs : List ListenerTold) → AreRested ps qs → HasNotFallen (rests_at ps) (rests_at qs)
+pub rests_rested : (ps qs : List ListenerTold) → AreRested ps qs → HasNotFallen (rests_at ps) (rests_at qs)
 rests_rested [] [] g = not_fallen 0 (2 ^ 64 - 1)
 rests_rested [] (q ∷ qs) g = absurd g
 rests_rested (p ∷ ps) [] g = absurd g
@@ -141,7 +141,7 @@ all_paused_on d k (p ∷ ps) (l ∷ ls) [] g r h = absurd g
 all_paused_on d k (p ∷ ps) (l ∷ ls) (m ∷ ms) g r h = (paused_on d k p l m g.0 r.0 h.0, all_paused_on d (suc k) ps ls ms g.1 r.1 h.1)
 
 -- with any last value of their type
-since : (n a b cap : ℕ) → min n cap ≤ a → min a cap ≤ b → min n cap ≤ b
+pub since : (n a b cap : ℕ) → min n cap ≤ a → min a cap ≤ b → min n cap ≤ b
 since n a b cap h k = omega arith
 
 -- ---- all of it

@@ -99,8 +99,8 @@ looks-smaller-in-Moved g c =
     (asks_so c.looks.self.pendings.postings c.looks.looks c.looks.moves c.looks.unfailed c.halted-halted.result c.may_ask-going.result
     c.postings.result c.postings.ensures c.may_ask-going.ensures c.if-not-going.false).2
 
-pub looks-preserved-in-NotYet : goal.looks-preserved-in-NotYet
-looks-preserved-in-NotYet g c =
+pub looks-preserved : goal.looks-preserved
+looks-preserved g c =
     let i = c.looks.invariant in
     let exchanged = g.F.Front.exchanged in
     let parts = parts_of c.args.self.now.cells.program in
@@ -124,8 +124,8 @@ looks-preserved-in-NotYet g c =
           (quiet_at at.2));
     }
 
-pub looks-smaller-in-NotYet : goal.looks-smaller-in-NotYet
-looks-smaller-in-NotYet g c =
+pub looks-smaller : goal.looks-smaller
+looks-smaller g c =
     fewer_wait c.looks.self.pendings.postings c.looks.looks c.looks.moves
     (asks_so c.looks.self.pendings.postings c.looks.looks c.looks.moves c.looks.unfailed c.halted-halted.result c.may_ask-going.result
     c.postings.result c.postings.ensures c.may_ask-going.ensures c.if-not-going.false).1
