@@ -1,11 +1,12 @@
 -- What a turn comes to, and the calls of its wire.
-use Rattle.std.proofs.Common.{◌≡◌, ◌≤◌, ◌<◌, ◌^◌, ◌⊎◌, inl, inr, ℕ, List, [], ◌∷◌, ◌++◌, length, take, sym, refl, ap, ◌∙◌, subst, arith}
+use Rattle.std.proofs.Common.{◌≡◌, ◌≢◌, ◌≤◌, ◌<◌, ◌^◌, ◌⊎◌, inl, inr, ℕ, Bool, true, false, if◌then◌else◌, nat_lt, List, [], ◌∷◌, ◌++◌, length, take, sym, refl, ap, ◌∙◌, subst, arith}
 use Rattle.std.specs.Prelude.{Option, Result, Ok, Err, IfOk}
+use Rattle.std.proofs.lemmas.Bool.{ltb-true, ltb-false}
 use Rattle.std.proofs.lemmas.List.{length-take-le}
 use Rattle.outside_traits.specs.Told.{Lists, WireTold}
 use Rattle.outside_traits.specs.declared.calls.WireCall.{WireCall}
 use Rattle.outside_traits.specs.declared.calls.WireCall.TheVariants.{Wrote}
-use Rattle.outside_polling.specs.Polls.{once_more}
+use Rattle.outside_polling.specs.Polls.{PollTold, greater, once_more, waited}
 use Rattle.http_connection.specs.Talking.{log_of}
 use Rattle.http_connection.specs.Prompt.{OnlyWrites}
 use Rattle.http_connection.specs.Steps.{Called}
@@ -21,7 +22,7 @@ use Rattle.conn_future.specs.declared.turn.Turn.{Turn}
 use Rattle.conn_future.specs.declared.turn.Turn.TheVariants as Turns
 use Rattle.conn_future.specs.Stages.{IsMoving, IsUnanswered, IsOver, IsAtRest, stage_behind, stage_of}
 use Rattle.conn_future.specs.Talking.{Seen, plain, IsTalking, TalksOn, StaysPrompt}
-use Rattle.conn_future.specs.Steps.{unmade, left_to_do, CallsOn, IsSame, LeavesLess, Stops}
+use Rattle.conn_future.specs.Steps.{unmade, left_to_do, passed_on, CallsOn, HoldsLongest, IsSame, KeepsRow, LeavesLess, SameRows, Stops}
 
 -- ---- waits
 
@@ -73,6 +74,77 @@ any_less (Err e) was now h = tt
 pub over_less : (turn : Turn) (was now : Kept) → turn ≡ Turns.Over → LeavesLess turn was now
 over_less turn was now e = subst (λ t. LeavesLess t was now) (sym e) tt
 
+-- ---- rows of answers
+
+-- a turn moved something
+any_turn_row : (turn : Turn) (before row : ℕ) (was now : Kept) → turn ≢ Turns.Waits → passed_on was < passed_on now → KeepsRow turn before row was now
+any_turn_row Turns.GoesOn before row was now n h = inr h
+any_turn_row Turns.Waits before row was now n h = absurd (n refl)
+any_turn_row Turns.Owes before row was now n h = tt
+any_turn_row Turns.Over before row was now n h = tt
+
+pub any_row : {E : Type 0} (result : Result Turn E) (before row : ℕ) (was now : Kept) → IfOk result (λ turn. turn ≢ Turns.Waits)
+    → passed_on was < passed_on now → IfOk result (λ turn. KeepsRow turn before row was now)
+any_row (Ok turn) before row was now n h = any_turn_row turn before row was now n h
+any_row (Err e) before row was now n h = tt
+
+-- a turn that does not go on
+pub over_row : (turn : Turn) (before row : ℕ) (was now : Kept) → turn ≡ Turns.Over → KeepsRow turn before row was now
+over_row turn before row was now e = subst (λ t. KeepsRow t before row was now) (sym e) tt
+
+-- what was read and written is as it was
+pub same_passed : (was now : Kept) → IsSame was now → passed_on now ≡ passed_on was
+same_passed was now s = let r = ap length s.read in let w = ap length s.written in omega (arith, r, w)
+
+-- turns in a row that go on
+pub row_on : (first before row : ℕ) (was mid now : Kept) → ((before ≡ first) × (passed_on mid ≡ passed_on was)) ⊎ (passed_on was < passed_on mid)
+    → KeepsRow Turns.GoesOn before row mid now → ((row ≡ first) × (passed_on now ≡ passed_on was)) ⊎ (passed_on was < passed_on now)
+row_on first before row was mid now (inl still) (inl same) = inl (same.0 ∙ still.0, same.1 ∙ still.1)
+row_on first before row was mid now (inl still) (inr more) = inr (omega (arith, still.1, more))
+row_on first before row was mid now (inr moved) (inl same) = inr (omega (arith, moved, same.1))
+row_on first before row was mid now (inr moved) (inr more) = inr (omega (arith, moved, more))
+
+-- and one that waits, where no byte passed in all
+pub row_once : (first before row : ℕ) (was mid now : Kept) → ((before ≡ first) × (passed_on mid ≡ passed_on was)) ⊎ (passed_on was < passed_on mid)
+    → KeepsRow Turns.Waits before row mid now → length now.read.items ≡ length was.read.items → length now.written.items ≡ length was.written.items
+    → row ≡ once_more first
+row_once first before row was mid now (inl still) once read written = once.0 ∙ ap once_more still.0
+row_once first before row was mid now (inr moved) once read written = absurd (omega (arith, moved, once.1, read, written))
+
+-- a wire whose row ended, and one that goes on with it
+pub row_ended : (before now : PollTold) → now.in_a_row ≡ 0 → now.longest ≡ before.longest → HoldsLongest before now
+row_ended before now none same = record { later = omega (arith, same); holds = λ h. omega (arith, none) }
+
+greater_first : (a b : ℕ) → a ≤ greater a b
+greater_first a b = by_test (nat_lt a b) refl
+  where
+    by_test : (t : Bool) → nat_lt a b ≡ t → a ≤ (if t then b else a)
+    by_test true e = let l = ltb-true a b e in omega (arith, l)
+    by_test false e = omega arith
+
+greater_second : (a b : ℕ) → b ≤ greater a b
+greater_second a b = by_test (nat_lt a b) refl
+  where
+    by_test : (t : Bool) → nat_lt a b ≡ t → b ≤ (if t then b else a)
+    by_test true e = omega arith
+    by_test false e = ltb-false a b e
+
+pub row_goes : (before now : PollTold) → now ≡ waited before → HoldsLongest before now
+row_goes before now e = subst (HoldsLongest before) (sym e) (record {
+  later = greater_first before.longest (once_more before.in_a_row);
+  holds = λ h. greater_second before.longest (once_more before.in_a_row);
+})
+
+-- a wire whose rows are as they were, and calls in a row
+pub rows_kept : (before now : PollTold) → SameRows before now → HoldsLongest before now
+rows_kept before now s = let r = s.row in let l = s.longest in record { later = omega (arith, l); holds = λ h. omega (arith, r, l, h) }
+
+pub holds_on : (first before now : PollTold) → HoldsLongest first before → HoldsLongest before now → HoldsLongest first now
+holds_on first before now a b =
+    let x = a.later in let y = b.later in record { later = omega (arith, x, y); holds = λ h. b.holds (a.holds h) }
+
+-- ---- answers
+
 -- no answer is owed then
 pub unowed : (next : Standing) → unmade next ≡ 0 → stage_of next ≡ Stages.Owes → ⊥
 unowed Stands.Waits e o = cc
@@ -109,12 +181,17 @@ pub unrested : (stage : Stage) → IsMoving stage → IsAtRest stage → ⊥
 unrested stage (inl e) r = reads_unrested (subst IsAtRest e r)
 unrested stage (inr e) r = writes_unrested (subst IsAtRest e r)
 
+-- one that is spent neither reads nor writes
+pub spent_unmoving : IsMoving Stages.Spent → ⊥
+spent_unmoving (inl e) = cc
+spent_unmoving (inr e) = cc
+
 -- one that was at rest stays as it was
 pub rests_on : {W : Type 0} (was mid now : Kept) (w x y : W) → (IsAtRest (stage_of was.next) → (mid ≡ was) × (x ≡ w))
     → (IsAtRest (stage_of mid.next) → (now ≡ mid) × (y ≡ x)) → IsAtRest (stage_of was.next) → (now ≡ was) × (y ≡ w)
-rests_on was mid now w x y first then r =
+rests_on was mid now w x y first onward r =
     let same = first r in
-    let stays = then (subst (λ (k : Kept). IsAtRest (stage_of k.next)) (sym same.0) r) in
+    let stays = onward (subst (λ (k : Kept). IsAtRest (stage_of k.next)) (sym same.0) r) in
     (stays.0 ∙ same.0, stays.1 ∙ same.1)
 
 -- ---- calls of the wire
@@ -142,14 +219,14 @@ nothing_called was now bodies texts s e =
 
 -- calls behind one another, in which no body was handed out and no text told
 pub calls_on : (was mid now : Seen) → TalksOn was mid → CallsOn was mid → CallsOn mid now → CallsOn was now
-calls_on was mid now talks called then = λ first bodies texts h.
+calls_on was mid now talks called onward = λ first bodies texts h.
     called_on was.line.calls mid.line.calls now.line.calls (log_of (plain was) bodies texts) (log_of (plain mid) bodies texts) (log_of (plain now) bodies texts) refl refl
-    (called first bodies texts h) (then first bodies texts (talks first bodies texts h))
+    (called first bodies texts h) (onward first bodies texts (talks first bodies texts h))
 
 pub prompt_on : (was mid now : Seen) → TalksOn was mid → CallsOn was mid → CallsOn mid now → StaysPrompt was now
-prompt_on was mid now talks called then = λ first bodies texts h.
+prompt_on was mid now talks called onward = λ first bodies texts h.
     is_prompt was.line.calls now.line.calls (log_of (plain was) bodies texts) (log_of (plain now) bodies texts)
-    (calls_on was mid now talks called then first bodies texts h)
+    (calls_on was mid now talks called onward first bodies texts h)
 
 -- ---- polls
 

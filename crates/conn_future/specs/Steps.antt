@@ -1,9 +1,9 @@
 -- These definitions serve the proofs alone: no promise of a public call speaks of them.
 -- What a connection does turn by turn.
-use Rattle.std.specs.Prelude.{◌≡◌, ◌<◌, ◌+◌, ◌-◌, ◌^◌, ℕ, Bool, true, false, List, [], length}
+use Rattle.std.specs.Prelude.{◌≡◌, ◌⊎◌, ◌<◌, ◌≤◌, ◌+◌, ◌-◌, ◌^◌, ℕ, Bool, true, false, List, [], length}
 use Rattle.std.specs.Prelude.{Option, None, Some, Result, Ok, Err}
 use Rattle.outside_traits.specs.Told.{WireTold}
-use Rattle.outside_polling.specs.Polls.{once_more}
+use Rattle.outside_polling.specs.Polls.{PollTold, once_more}
 use Rattle.http_port.specs.declared.head_reader.Fed.{Fed}
 use Rattle.http_port.specs.Talk.{answer}
 use Rattle.http_connection.specs.Talking.{log_of}
@@ -44,6 +44,29 @@ LeavesLess Turns.GoesOn was now = left_to_do now < left_to_do was
 LeavesLess Turns.Waits was now = Unit {0}
 LeavesLess Turns.Owes was now = Unit {0}
 LeavesLess Turns.Over was now = Unit {0}
+
+-- how many bytes were read and written on a connection
+abbrev pub passed_on : Kept → ℕ
+passed_on kept = length kept.read.items + length kept.written.items
+
+-- What a turn means for how often in a row the wire could move nothing, which is so much before and now: once more where
+-- it waits, and as much where it goes on and no byte passed.
+abbrev pub KeepsRow : Turn → ℕ → ℕ → Kept → Kept → Type 0
+KeepsRow Turns.GoesOn before row was now = ((row ≡ before) × (passed_on now ≡ passed_on was)) ⊎ (passed_on was < passed_on now)
+KeepsRow Turns.Waits before row was now = (row ≡ once_more before) × (passed_on now ≡ passed_on was)
+KeepsRow Turns.Owes before row was now = Unit {0}
+KeepsRow Turns.Over before row was now = Unit {0}
+
+-- how often in a row the wire could move nothing is as it was, up to now and in its longest row
+pub record SameRows (before now : PollTold) : Type 0 where
+  pub row : now.in_a_row ≡ before.in_a_row
+  pub longest : now.longest ≡ before.longest
+
+-- The longest row in which a wire could move nothing did not fall, and its row up to now is no longer, if it was not
+-- before.
+pub record HoldsLongest (before now : PollTold) : Type 0 where
+  pub later : before.longest ≤ now.longest
+  pub holds : before.in_a_row ≤ before.longest → now.in_a_row ≤ now.longest
 
 -- what a connection has read and written is as it was, and where its reader is
 pub record IsSame (was now : Kept) : Type 0 where

@@ -1,11 +1,11 @@
 //! A connection, polled by hand from its first byte until it is over.
-ghost use Rattle.std.specs.Prelude.{◌≡◌, ◌≢◌, ◌++◌, ◌∷◌, [], List, ℕ, Option, MatchOption};
+ghost use Rattle.std.specs.Prelude.{◌≡◌, ◌≢◌, ◌≤◌, ◌++◌, ◌∷◌, [], length, List, ℕ, Option, MatchOption};
 ghost use Rattle.outside_traits.specs.Told.{WireTold};
 ghost use Rattle.http_connection.specs.Talking.{handed};
 ghost use Rattle.conn_future.specs.declared.stage.Stage.TheVariants as Stages;
-ghost use Rattle.conn_future.specs.Stages.{stage_of, EndsPoll, IsAtRest};
+ghost use Rattle.conn_future.specs.Stages.{stage_of, EndsPoll, IsAtRest, IsMoving};
 ghost use Rattle.conn_future.specs.Talking.{seen, IsTalking, TalksOn, StaysPrompt};
-ghost use Rattle.outside_polling.specs.Polls.{shut_so};
+ghost use Rattle.outside_polling.specs.Polls.{once_more, shut_so};
 
 use crate::kept::Kept;
 use crate::stage::Stage;
@@ -79,6 +79,14 @@ impl<W: PollWire> ConnTask<W> {
         ensures rests { IsAtRest (stage_of self.old.kept.next)
             → (self.new.kept ≡ self.old.kept) × (self.new.wire ≡ self.old.wire) }
         ensures owes { stage_of self.new.kept.next ≡ Stages.Owes → stage_of self.old.kept.next ≡ Stages.Owes }
+        // Where no bytes moved, the wire answered once more in a row that it can move nothing yet.
+        ensures row { IsMoving (stage_of self.new.kept.next)
+            → length self.new.kept.read.items ≡ length self.old.kept.read.items
+            → length self.new.kept.written.items ≡ length self.old.kept.written.items
+            → (W.told self.new.wire).in_a_row ≡ once_more (W.told self.old.wire).in_a_row }
+        ensures longest { (W.told self.old.wire).longest ≤ (W.told self.new.wire).longest }
+        ensures within { (W.told self.old.wire).in_a_row ≤ (W.told self.old.wire).longest
+            → (W.told self.new.wire).in_a_row ≤ (W.told self.new.wire).longest }
     {
         loop {
             match take_turn(&mut self.wire, &mut self.kept) {

@@ -1,9 +1,9 @@
 //! A turn of a connection: one call of its wire at most, and what it calls for.
-ghost use Rattle.std.specs.Prelude.{◌≡◌, IfOk, OnErr};
+ghost use Rattle.std.specs.Prelude.{◌≡◌, ◌≢◌, IfOk, OnErr};
 ghost use Rattle.http_port.specs.Talk.{answer as answer_text};
 ghost use Rattle.conn_future.specs.Stages.{stage_of, IsAtRest};
 ghost use Rattle.conn_future.specs.Talking.{seen, TalksOn};
-ghost use Rattle.conn_future.specs.Steps.{CallsOn, Stops, LeavesLess, TakesUp, FollowsOn, IsOutOn, Finishes, IsMade, unmade};
+ghost use Rattle.conn_future.specs.Steps.{CallsOn, HoldsLongest, KeepsRow, Stops, LeavesLess, TakesUp, FollowsOn, IsOutOn, Finishes, IsMade, SameRows, unmade};
 ghost use Rattle.conn_future.specs.declared.stage.Stage.TheVariants as Stages;
 ghost use Rattle.conn_future.specs.declared.stage.Standing.TheVariants as Stands;
 ghost use Rattle.conn_future.specs.declared.turn.Turn.TheVariants as Turns;
@@ -45,6 +45,9 @@ pub(crate) fn take_turn<W: PollWire>(wire: &mut W, kept: &mut Kept) -> Result<Tu
     ensures spent { OnErr result (((W.told wire.new).waits ≡ (W.told wire.old).waits)
         × (kept.new.next ≡ Stands.Spent)) }
     ensures less { IfOk result (λ turn. LeavesLess turn kept.old kept.new) }
+    ensures row { IfOk result (λ turn. KeepsRow turn
+        (W.told wire.old).in_a_row (W.told wire.new).in_a_row kept.old kept.new) }
+    ensures longest { HoldsLongest (W.told wire.old) (W.told wire.new) }
     ensures rests { IsAtRest (stage_of kept.old.next) → (kept.new ≡ kept.old) × (wire.new ≡ wire.old) }
     ensures owes { stage_of kept.new.next ≡ Stages.Owes → stage_of kept.old.next ≡ Stages.Owes }
 {
@@ -76,6 +79,9 @@ fn read_on<W: PollWire>(wire: &mut W, kept: &mut Kept) -> Result<Turn, AllocErro
     ensures spent { OnErr result (((W.told wire.new).waits ≡ (W.told wire.old).waits)
         × (kept.new.next ≡ Stands.Spent)) }
     ensures less { IfOk result (λ turn. LeavesLess turn kept.old kept.new) }
+    ensures row { IfOk result (λ turn. KeepsRow turn
+        (W.told wire.old).in_a_row (W.told wire.new).in_a_row kept.old kept.new) }
+    ensures longest { HoldsLongest (W.told wire.old) (W.told wire.new) }
     ensures made { unmade kept.new.next ≡ 0 }
 {
     kept.stand(Standing::Spent);
@@ -127,6 +133,9 @@ fn write_on<W: PollWire>(wire: &mut W, kept: &mut Kept, close: bool) -> Result<T
     ensures spent { OnErr result (((W.told wire.new).waits ≡ (W.told wire.old).waits)
         × (kept.new.next ≡ Stands.Spent)) }
     ensures less { IfOk result (λ turn. LeavesLess turn kept.old kept.new) }
+    ensures row { IfOk result (λ turn. KeepsRow turn
+        (W.told wire.old).in_a_row (W.told wire.new).in_a_row kept.old kept.new) }
+    ensures longest { HoldsLongest (W.told wire.old) (W.told wire.new) }
     ensures made { unmade kept.new.next ≡ 0 }
 {
     kept.stand(Standing::Spent);
@@ -161,6 +170,8 @@ fn go_behind<W: PollWire>(wire: &mut W, kept: &mut Kept, close: bool) -> Result<
         (λ turn. Stops turn (W.told wire.old).waits (W.told wire.new).waits (stage_of kept.new.next)) }
     ensures spent { OnErr result (((W.told wire.new).waits ≡ (W.told wire.old).waits)
         × (kept.new.next ≡ Stands.Spent)) }
+    ensures moves { IfOk result (λ turn. turn ≢ Turns.Waits) }
+    ensures rows { SameRows (W.told wire.old) (W.told wire.new) }
     ensures made { unmade kept.new.next ≡ 0 }
 {
     if !kept.due.is_out() {
@@ -225,6 +236,7 @@ fn finish<W: PollWire>(wire: &mut W, kept: &mut Kept, ending: Ending) -> Turn
     ensures waits { (W.told wire.new).waits ≡ (W.told wire.old).waits }
     ensures calls { (W.told wire.new).wire.calls ≡ (W.told wire.old).wire.calls }
     ensures ended { (W.told wire.new).wire.ended ≡ (W.told wire.old).wire.ended }
+    ensures rows { SameRows (W.told wire.old) (W.told wire.new) }
 {
     wire.close();
     kept.stand(Standing::Over(ending));

@@ -27,6 +27,20 @@ waits_after (Ok NotYet) before = added before 1
 waits_after (Ok Closed) before = before
 waits_after (Err cause) before = before
 
+-- how often a door has answered so then since it gave a wire last, where it had so often
+abbrev pub waits_in_a_row_after : {W E : Type 0} → Result (Accept W) E → ℕ → ℕ
+waits_in_a_row_after (Ok (Came wire)) before = 0
+waits_in_a_row_after (Ok NotYet) before = added before 1
+waits_in_a_row_after (Ok Closed) before = before
+waits_in_a_row_after (Err cause) before = before
+
+-- how often it was rested at since it gave a wire last, where it was so often
+abbrev pub rests_in_a_row_after : {W E : Type 0} → Result (Accept W) E → ℕ → ℕ
+rests_in_a_row_after (Ok (Came wire)) before = 0
+rests_in_a_row_after (Ok NotYet) before = before
+rests_in_a_row_after (Ok Closed) before = before
+rests_in_a_row_after (Err cause) before = before
+
 -- whether a door has answered then that nobody comes any more
 abbrev pub closed_after : {W E : Type 0} → Result (Accept W) E → Bool → Bool
 closed_after (Ok (Came wire)) before = before
@@ -49,4 +63,5 @@ pub record IsFresh (wire : WireTold) : Type 0 where
 pub record ComesAt (place : ℕ) (told : PollTold) : Type 0 where
   pub fresh : IsFresh told.wire
   pub unwaited : told.waits ≡ 0
+  pub no_row : told.in_a_row ≡ 0
   pub door : told.wire.door ≡ Some place

@@ -22,16 +22,29 @@ pub record DoorTold : Type 0 where
   pub waits : ℕ
   -- how often it was rested at
   pub rests : ℕ
+  -- how often it has answered that nobody has come yet since it gave a wire last
+  pub waits_in_a_row : ℕ
+  -- how often it was rested at since then
+  pub rests_in_a_row : ℕ
   -- whether it has answered that nobody comes any more
   pub closed : Bool
 
 -- a door of this place that was not tried yet
 abbrev pub untried : ℕ → DoorTold
-untried place = record { place = place; faults = 0; wires = 0; waits = 0; rests = 0; closed = false }
+untried place = record {
+  place = place;
+  faults = 0;
+  wires = 0;
+  waits = 0;
+  rests = 0;
+  waits_in_a_row = 0;
+  rests_in_a_row = 0;
+  closed = false;
+}
 
 -- a door that was rested at once more
 abbrev pub rested : DoorTold → DoorTold
-rested door = record door { rests = added door.rests 1 }
+rested door = record door { rests = added door.rests 1; rests_in_a_row = added door.rests_in_a_row 1 }
 
 -- whether a door has ended: it has answered that nobody comes any more, or a try at it has failed
 abbrev pub has_ended : DoorTold → Bool

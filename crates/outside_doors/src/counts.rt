@@ -13,6 +13,8 @@ pub struct DoorCounts {
     wires: u64,
     waits: u64,
     rests: u64,
+    waits_in_a_row: u64,
+    rests_in_a_row: u64,
     is_closed: bool,
 }
 
@@ -21,7 +23,16 @@ impl Model for DoorCounts {
 
     ghost Value = { DoorTold };
 
-    ghost view = { λ c. record { place = c.place; faults = c.faults; wires = c.wires; waits = c.waits; rests = c.rests; closed = c.is_closed } };
+    ghost view = { λ c. record {
+      place = c.place;
+      faults = c.faults;
+      wires = c.wires;
+      waits = c.waits;
+      rests = c.rests;
+      waits_in_a_row = c.waits_in_a_row;
+      rests_in_a_row = c.rests_in_a_row;
+      closed = c.is_closed;
+    } };
 }
 
 impl DoorCounts {
@@ -35,6 +46,8 @@ impl DoorCounts {
             wires: 0,
             waits: 0,
             rests: 0,
+            waits_in_a_row: 0,
+            rests_in_a_row: 0,
             is_closed: false,
         }
     }
@@ -49,6 +62,8 @@ impl DoorCounts {
             wires: self.wires,
             waits: self.waits,
             rests: self.rests,
+            waits_in_a_row: self.waits_in_a_row,
+            rests_in_a_row: self.rests_in_a_row,
             is_closed: self.is_closed,
         }
     }
@@ -106,16 +121,26 @@ impl DoorCounts {
 
     /// Counts a wire that the door gave.
     pub fn add_wire(&mut self)
-        ensures { self.new ≡ record self.old { wires = added self.old.wires 1 } }
+        ensures { self.new ≡ record self.old {
+          wires = added self.old.wires 1;
+          waits_in_a_row = 0;
+          rests_in_a_row = 0;
+        } }
     {
         self.wires = self.wires.saturating_add(1);
+        self.waits_in_a_row = 0;
+        self.rests_in_a_row = 0;
     }
 
     /// Counts an answer that nobody has come yet.
     pub fn add_wait(&mut self)
-        ensures { self.new ≡ record self.old { waits = added self.old.waits 1 } }
+        ensures { self.new ≡ record self.old {
+          waits = added self.old.waits 1;
+          waits_in_a_row = added self.old.waits_in_a_row 1;
+        } }
     {
         self.waits = self.waits.saturating_add(1);
+        self.waits_in_a_row = self.waits_in_a_row.saturating_add(1);
     }
 
     /// Counts a rest.
@@ -123,6 +148,7 @@ impl DoorCounts {
         ensures { self.new ≡ rested self.old }
     {
         self.rests = self.rests.saturating_add(1);
+        self.rests_in_a_row = self.rests_in_a_row.saturating_add(1);
     }
 
     /// Notes the answer that nobody comes any more.

@@ -2,6 +2,7 @@ ghost use Rattle.std.specs.Prelude.{◌≡◌, ◌<◌, [], ◌∷◌, Ok, IsTru
 ghost use Rattle.outside_traits.specs.Causes.{HasCause, Rose};
 ghost use Rattle.outside_doors.specs.Counts.{DoorTold, rested, untried, with_door, with_opened, with_wire};
 ghost use Rattle.outside_doors.specs.Attempts.{ComesAt, IfCame, closed_after, waits_after, wires_after};
+ghost use Rattle.outside_doors.specs.Attempts.{waits_in_a_row_after, rests_in_a_row_after};
 ghost use Rattle.outside_traits.specs.Told.{Lists};
 ghost use Rattle.outside_polling.specs.Polls.{shut_so};
 ghost use Rattle.outside_doors.specs.Returns.{DoorsTold, try_told};
@@ -31,6 +32,8 @@ pub trait Door {
         ensures wires { (told self.new).wires ≡ wires_after result (told self.old).wires }
         ensures waits { (told self.new).waits ≡ waits_after result (told self.old).waits }
         ensures rests { (told self.new).rests ≡ (told self.old).rests }
+        ensures waits_row { (told self.new).waits_in_a_row ≡ waits_in_a_row_after result (told self.old).waits_in_a_row }
+        ensures rests_row { (told self.new).rests_in_a_row ≡ rests_in_a_row_after result (told self.old).rests_in_a_row }
         ensures closed { (told self.new).closed ≡ closed_after result (told self.old).closed }
         ensures stays { IsTrue (told self.old).closed → result ≡ Ok Accept.Closed }
         ensures cause { HasCause (told self.old).faults (told self.new).faults result };

@@ -89,7 +89,8 @@ told_by_scripted line = record {
 
 -- what a wire tells of which some calls come too early: what the wire in it tells, and how many of these there were
 abbrev pub polled : {W : Type 0} → (W → WireTold) → Hasty W → PollTold
-polled told line = record { wire = told line.wire; waits = line.waits }
+polled told line =
+    record { wire = told line.wire; waits = line.waits; in_a_row = line.in_a_row; longest = line.longest }
 
 -- the same of one that came at a door, which it tells
 abbrev pub told_of : {W : Type 0} → (W → WireTold) → Placed (Hasty W) → PollTold

@@ -20,13 +20,16 @@ impl<W: PollWire + Drop> Model for NewWire<W> {
 
     ghost view = { λ n. n.wire };
 
-    ghost invariant = { λ n. IsFresh (W.told n.wire).wire × ((W.told n.wire).waits ≡ 0) };
+    ghost invariant = { λ n. IsFresh (W.told n.wire).wire
+        × ((W.told n.wire).waits ≡ 0)
+        × ((W.told n.wire).in_a_row ≡ 0) };
 }
 
 impl<W: PollWire + Drop> NewWire<W> {
     pub(crate) fn new(wire: W) -> NewWire<W>
         requires fresh { IsFresh (W.told wire).wire }
         requires unwaited { (W.told wire).waits ≡ 0 }
+        requires no_row { (W.told wire).in_a_row ≡ 0 }
         ensures { result ≡ wire }
     {
         NewWire { wire }

@@ -1,7 +1,7 @@
 //! The wires that doors in memory give.
 ghost use Rattle.std.specs.Prelude.{◌≡◌, ◌<◌, ◌↔◌, false, Ok, IfOk, Contains, length};
 ghost use Rattle.std.specs.Io.{ReadsAtMost, WritesAtMost};
-ghost use Rattle.outside_polling.specs.Polls.{done, Polls, ReadsWire, WritesWire};
+ghost use Rattle.outside_polling.specs.Polls.{done, longest_after, row_after, Polls, ReadsWire, WritesWire};
 ghost use Rattle.outside_polling.specs.Early.{hasty, IsCalled};
 ghost use Rattle.outside_polling.specs.declared.traits.Ready.TheVariants.{NotYet};
 ghost use Rattle.outside_memory_doors.specs.Memory.{polled, scripted_line, told_by_scripted, told_by_unfailed, unfailed_line};
@@ -67,6 +67,8 @@ impl PollWire for UnfailingPollWire {
         ensures bound { ReadsAtMost (done result) into.new }
         ensures reads { Polls result (polled told_by_unfailed self.old) (polled told_by_unfailed self.new)
             (λ answer. ReadsWire (length into.old) into.new answer) }
+        ensures row { self.new.in_a_row ≡ row_after result self.old.in_a_row }
+        ensures longest { self.new.longest ≡ longest_after result self.old.longest self.old.in_a_row }
     {
         self.wire.try_read(into)
     }
@@ -78,6 +80,8 @@ impl PollWire for UnfailingPollWire {
         ensures bound { WritesAtMost (done result) from.now }
         ensures writes { Polls result (polled told_by_unfailed self.old) (polled told_by_unfailed self.new)
             (λ answer. WritesWire from.now answer) }
+        ensures row { self.new.in_a_row ≡ row_after result self.old.in_a_row }
+        ensures longest { self.new.longest ≡ longest_after result self.old.longest self.old.in_a_row }
     {
         self.wire.try_write(from)
     }
@@ -147,6 +151,8 @@ impl PollWire for ScriptedPollWire {
         ensures bound { ReadsAtMost (done result) into.new }
         ensures reads { Polls result (polled told_by_scripted self.old) (polled told_by_scripted self.new)
             (λ answer. ReadsWire (length into.old) into.new answer) }
+        ensures row { self.new.in_a_row ≡ row_after result self.old.in_a_row }
+        ensures longest { self.new.longest ≡ longest_after result self.old.longest self.old.in_a_row }
     {
         self.wire.try_read(into)
     }
@@ -158,6 +164,8 @@ impl PollWire for ScriptedPollWire {
         ensures bound { WritesAtMost (done result) from.now }
         ensures writes { Polls result (polled told_by_scripted self.old) (polled told_by_scripted self.new)
             (λ answer. WritesWire from.now answer) }
+        ensures row { self.new.in_a_row ≡ row_after result self.old.in_a_row }
+        ensures longest { self.new.longest ≡ longest_after result self.old.longest self.old.in_a_row }
     {
         self.wire.try_write(from)
     }

@@ -2,6 +2,7 @@ ghost use Rattle.std.specs.Prelude.{◌≡◌, ◌++◌, [], ◌∷◌, Ok, Some
 ghost use Rattle.outside_traits.specs.Causes.{HasCause};
 ghost use Rattle.outside_doors.specs.Counts.{rested, untried};
 ghost use Rattle.outside_doors.specs.Attempts.{ComesAt, IfCame, closed_after, waits_after, wires_after};
+ghost use Rattle.outside_doors.specs.Attempts.{waits_in_a_row_after, rests_in_a_row_after};
 ghost use Rattle.outside_polling.specs.Early.{hasty};
 ghost use Rattle.outside_memory_doors.specs.Memory.{UnfailinglyAnswers, unfailed_line, quiet_after, told_by_unfailed, told_of};
 
@@ -95,6 +96,8 @@ impl Door for UnfailingDoor {
         ensures wires { self.new.told.wires ≡ wires_after result self.old.told.wires }
         ensures waits { self.new.told.waits ≡ waits_after result self.old.told.waits }
         ensures rests { self.new.told.rests ≡ self.old.told.rests }
+        ensures waits_row { self.new.told.waits_in_a_row ≡ waits_in_a_row_after result self.old.told.waits_in_a_row }
+        ensures rests_row { self.new.told.rests_in_a_row ≡ rests_in_a_row_after result self.old.told.rests_in_a_row }
         ensures closed { self.new.told.closed ≡ closed_after result self.old.told.closed }
         ensures stays { IsTrue self.old.told.closed → result ≡ Ok Accept.Closed }
         ensures cause { HasCause self.old.told.faults self.new.told.faults result }

@@ -1,6 +1,6 @@
-ghost use Rattle.std.specs.Prelude.{◌≡◌, ◌↔◌, true, false, IsTrue, IfOk, Ok, Contains, length};
+ghost use Rattle.std.specs.Prelude.{◌≡◌, ◌↔◌, true, false, if◌then◌else◌, IsTrue, IfOk, Ok, Contains, length};
 ghost use Rattle.std.specs.Io.{ReadsAtMost, WritesAtMost};
-ghost use Rattle.outside_polling.specs.Polls.{done, once_more, Polls, ReadsWire, WritesWire};
+ghost use Rattle.outside_polling.specs.Polls.{done, greater, once_more, row_after, longest_after, Polls, ReadsWire, WritesWire};
 ghost use Rattle.outside_polling.specs.Early.{hasty, IsCalled};
 ghost use Rattle.outside_polling.specs.declared.traits.Ready.TheVariants.{NotYet};
 
@@ -17,6 +17,8 @@ pub struct EarlyWire<W: Wire + Drop> {
     early: Vec<u64>,
     calls: u64,
     waits: u64,
+    in_a_row: u64,
+    longest: u64,
     closed: bool,
 }
 
@@ -26,7 +28,14 @@ impl<W: Wire + Drop> Model for EarlyWire<W> {
 
     ghost Value = { Hasty W };
 
-    ghost view = { λ w. record { wire = w.wire; early = w.early.items; calls = w.calls; waits = w.waits } };
+    ghost view = { λ w. record {
+      wire = w.wire;
+      early = w.early.items;
+      calls = w.calls;
+      waits = w.waits;
+      in_a_row = w.in_a_row;
+      longest = w.longest;
+    } };
 
     ghost invariant = { λ w. (W.told w.wire).closed ≡ w.closed };
 }
@@ -43,6 +52,8 @@ impl<W: Wire + Drop> EarlyWire<W> {
             early,
             calls: 0,
             waits: 0,
+            in_a_row: 0,
+            longest: 0,
             closed: false,
         })
     }
@@ -68,9 +79,13 @@ impl<W: Wire + Drop> EarlyWire<W> {
             × Contains self.old.early self.old.calls) }
         ensures waits { result ≡ true → self.new.waits ≡ once_more self.old.waits }
         ensures stays { result ≡ false → self.new.waits ≡ self.old.waits }
+        ensures row { self.new.in_a_row ≡ (if result then once_more self.old.in_a_row else 0) }
+        ensures longest { self.new.longest
+            ≡ (if result then greater self.old.longest (once_more self.old.in_a_row) else self.old.longest) }
         ensures called { (W.told self.old.wire).closed ≡ false → IsCalled self.old self.new }
     {
         if self.closed {
+            self.in_a_row = 0;
             return false;
         }
         let call = self.calls;
@@ -78,13 +93,24 @@ impl<W: Wire + Drop> EarlyWire<W> {
         let is_early = self.early.contains(&call);
         if is_early {
             self.waits = self.waits.saturating_add(1);
+            self.in_a_row = self.in_a_row.saturating_add(1);
+            if self.longest < self.in_a_row {
+                self.longest = self.in_a_row;
+            }
+        } else {
+            self.in_a_row = 0;
         }
         is_early
     }
 }
 
 impl<W: Wire + Drop> PollWire for EarlyWire<W> {
-    ghost told = { λ w. record { wire = W.told w.wire; waits = w.waits } };
+    ghost told = { λ w. record {
+      wire = W.told w.wire;
+      waits = w.waits;
+      in_a_row = w.in_a_row;
+      longest = w.longest;
+    } };
 
     fn try_read(&mut self, into: &mut [u8]) -> Result<Ready, Failed>
         ensures early { result ≡ Ok NotYet ↔
@@ -92,9 +118,21 @@ impl<W: Wire + Drop> PollWire for EarlyWire<W> {
         ensures called { (W.told self.old.wire).closed ≡ false → IsCalled self.old self.new }
         ensures bound { ReadsAtMost (done result) into.new }
         ensures reads { Polls result
-            (record { wire = W.told self.old.wire; waits = self.old.waits })
-            (record { wire = W.told self.new.wire; waits = self.new.waits })
+            (record {
+              wire = W.told self.old.wire;
+              waits = self.old.waits;
+              in_a_row = self.old.in_a_row;
+              longest = self.old.longest;
+            })
+            (record {
+              wire = W.told self.new.wire;
+              waits = self.new.waits;
+              in_a_row = self.new.in_a_row;
+              longest = self.new.longest;
+            })
             (λ answer. ReadsWire (length into.old) into.new answer) }
+        ensures row { self.new.in_a_row ≡ row_after result self.old.in_a_row }
+        ensures longest { self.new.longest ≡ longest_after result self.old.longest self.old.in_a_row }
     {
         if self.comes_early() {
             return Ok(Ready::NotYet);
@@ -109,9 +147,21 @@ impl<W: Wire + Drop> PollWire for EarlyWire<W> {
         ensures called { (W.told self.old.wire).closed ≡ false → IsCalled self.old self.new }
         ensures bound { WritesAtMost (done result) from.now }
         ensures writes { Polls result
-            (record { wire = W.told self.old.wire; waits = self.old.waits })
-            (record { wire = W.told self.new.wire; waits = self.new.waits })
+            (record {
+              wire = W.told self.old.wire;
+              waits = self.old.waits;
+              in_a_row = self.old.in_a_row;
+              longest = self.old.longest;
+            })
+            (record {
+              wire = W.told self.new.wire;
+              waits = self.new.waits;
+              in_a_row = self.new.in_a_row;
+              longest = self.new.longest;
+            })
             (λ answer. WritesWire from.now answer) }
+        ensures row { self.new.in_a_row ≡ row_after result self.old.in_a_row }
+        ensures longest { self.new.longest ≡ longest_after result self.old.longest self.old.in_a_row }
     {
         if self.comes_early() {
             return Ok(Ready::NotYet);

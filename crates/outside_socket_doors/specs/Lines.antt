@@ -5,13 +5,16 @@ use Rattle.outside_polling.specs.declared.traits.Ready.{Ready}
 use Rattle.outside_polling.specs.declared.traits.Ready.TheVariants.{Done, NotYet}
 
 -- a connection over a socket: whether a read of it has failed, whether a write has before it was closed, whether a read
--- told the end, whether it is closed, how often it could move nothing yet, and at which door it came
+-- told the end, whether it is closed, how often it could move nothing yet, in a row up to now and in the longest
+-- row, and at which door it came
 pub record LineTold : Type 0 where
   pub read_failed : Bool
   pub write_failed : Bool
   pub ended : Bool
   pub closed : Bool
   pub waits : ℕ
+  pub in_a_row : ℕ
+  pub longest : ℕ
   pub door : ℕ
 
 -- what it tells as a wire: none of its bytes and calls
@@ -29,12 +32,23 @@ told_by_line line = record {
     door = Some line.door;
   };
   waits = line.waits;
+  in_a_row = line.in_a_row;
+  longest = line.longest;
 }
 
 -- a new connection, which came at this door
 abbrev pub new_wire : ℕ → LineTold
 new_wire door =
-    record { read_failed = false; write_failed = false; ended = false; closed = false; waits = 0; door = door }
+    record {
+      read_failed = false;
+      write_failed = false;
+      ended = false;
+      closed = false;
+      waits = 0;
+      in_a_row = 0;
+      longest = 0;
+      door = door;
+    }
 
 -- P of the number of bytes that a call moved, where it moved some or all there was
 abbrev pub IfDone : {E : Type 0} → Result Ready E → (ℕ → Type 0) → Type 0

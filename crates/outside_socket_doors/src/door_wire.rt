@@ -1,4 +1,5 @@
 ghost use Rattle.std.specs.Prelude.{◌≡◌};
+ghost use Rattle.outside_polling.specs.Polls as spec;
 ghost use Rattle.outside_socket_doors.specs.Lines.{new_wire};
 
 use crate::line::Line;
@@ -18,6 +19,8 @@ pub struct DoorWire<H: Net + Clock + Eprint + Copy + Drop> {
     cut: bool,
     ended: bool,
     waits: u64,
+    in_a_row: u64,
+    longest: u64,
     door: u64,
 }
 
@@ -33,6 +36,8 @@ impl<H: Net + Clock + Eprint + Copy + Drop> Model for DoorWire<H> {
       ended = w.ended;
       closed = is_none w.line;
       waits = w.waits;
+      in_a_row = w.in_a_row;
+      longest = w.longest;
       door = w.door;
     } };
 }
@@ -48,6 +53,8 @@ impl<H: Net + Clock + Eprint + Copy + Drop> DoorWire<H> {
             cut: false,
             ended: false,
             waits: 0,
+            in_a_row: 0,
+            longest: 0,
             door,
         }
     }
@@ -64,6 +71,20 @@ impl<H: Net + Clock + Eprint + Copy + Drop> DoorWire<H> {
         ensures { result ≡ self.now.waits }
     {
         self.waits
+    }
+
+    /// How often in a row it has answered so up to now.
+    pub fn in_a_row(&self) -> u64
+        ensures { result ≡ self.now.in_a_row }
+    {
+        self.in_a_row
+    }
+
+    /// How often in its longest row.
+    pub fn longest(&self) -> u64
+        ensures { result ≡ self.now.longest }
+    {
+        self.longest
     }
 
     /// Whether a read has failed.
@@ -86,6 +107,19 @@ impl<H: Net + Clock + Eprint + Copy + Drop> DoorWire<H> {
     {
         self.ended
     }
+
+    /// Counts an answer that it can move nothing yet.
+    fn add_wait(&mut self)
+        ensures { self.new ≡ record self.old {
+          waits = spec.once_more self.old.waits;
+          in_a_row = spec.once_more self.old.in_a_row;
+          longest = spec.greater self.old.longest (spec.once_more self.old.in_a_row);
+        } }
+    {
+        self.waits = self.waits.saturating_add(1);
+        self.in_a_row = self.in_a_row.saturating_add(1);
+        self.longest = greater(self.longest, self.in_a_row);
+    }
 }
 
 impl<H: Net + Clock + Eprint + Copy + Drop> PollWire for DoorWire<H> {
@@ -96,26 +130,37 @@ impl<H: Net + Clock + Eprint + Copy + Drop> PollWire for DoorWire<H> {
     fn try_read(&mut self, into: &mut [u8]) -> Result<Ready, Failed> {
         let has_room = !into.is_empty();
         let Some(line) = &mut self.line else {
+            self.in_a_row = 0;
             return Ok(Ready::Done(0));
         };
         let answer = line.try_read(into);
         match answer {
-            Ok(Ready::Done(count)) => self.ended |= has_room && count == 0,
-            Ok(Ready::NotYet) => self.waits = self.waits.saturating_add(1),
-            Err(Failed) => self.lost = true,
+            Ok(Ready::Done(count)) => {
+                self.in_a_row = 0;
+                self.ended |= has_room && count == 0;
+            }
+            Ok(Ready::NotYet) => self.add_wait(),
+            Err(Failed) => {
+                self.in_a_row = 0;
+                self.lost = true;
+            }
         }
         answer
     }
 
     fn try_write(&mut self, from: &[u8]) -> Result<Ready, Failed> {
         let Some(line) = &mut self.line else {
+            self.in_a_row = 0;
             return Err(Failed);
         };
         let answer = line.try_write(from);
         match answer {
-            Ok(Ready::Done(_)) => {}
-            Ok(Ready::NotYet) => self.waits = self.waits.saturating_add(1),
-            Err(Failed) => self.cut = true,
+            Ok(Ready::Done(_)) => self.in_a_row = 0,
+            Ok(Ready::NotYet) => self.add_wait(),
+            Err(Failed) => {
+                self.in_a_row = 0;
+                self.cut = true;
+            }
         }
         answer
     }
@@ -126,4 +171,14 @@ impl<H: Net + Clock + Eprint + Copy + Drop> PollWire for DoorWire<H> {
         }
         self.line = None;
     }
+}
+
+/// The greater of two counts.
+fn greater(a: u64, b: u64) -> u64
+    ensures { result ≡ spec.greater a b }
+{
+    if a < b {
+        return b;
+    }
+    a
 }

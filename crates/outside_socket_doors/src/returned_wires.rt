@@ -18,6 +18,8 @@ pub struct ReturnedWire {
     cut: bool,
     ended: bool,
     waits: u64,
+    in_a_row: u64,
+    longest: u64,
     door: u64,
 }
 
@@ -34,6 +36,8 @@ impl Model for ReturnedWire {
       ended = w.ended;
       closed = true;
       waits = w.waits;
+      in_a_row = w.in_a_row;
+      longest = w.longest;
       door = w.door;
     }) };
 }
@@ -48,6 +52,8 @@ impl ReturnedWire {
             cut: wire.is_cut(),
             ended: wire.has_ended(),
             waits: wire.waits(),
+            in_a_row: wire.in_a_row(),
+            longest: wire.longest(),
             door: wire.door(),
         }
     }
@@ -64,6 +70,20 @@ impl ReturnedWire {
         ensures { result ≡ self.now.waits }
     {
         self.waits
+    }
+
+    /// How often in a row it had answered so when it came back.
+    pub fn in_a_row(&self) -> u64
+        ensures { result ≡ self.now.in_a_row }
+    {
+        self.in_a_row
+    }
+
+    /// How often in its longest row.
+    pub fn longest(&self) -> u64
+        ensures { result ≡ self.now.longest }
+    {
+        self.longest
     }
 
     /// Whether a read had failed.

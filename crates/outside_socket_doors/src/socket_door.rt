@@ -2,6 +2,7 @@ ghost use Rattle.std.specs.Prelude.{◌≡◌, IsOk, IfErr, true};
 ghost use Rattle.outside_traits.specs.Causes.{HasCause};
 ghost use Rattle.outside_doors.specs.Counts.{untried};
 ghost use Rattle.outside_doors.specs.Attempts.{ComesAt, IfCame, closed_after, waits_after, wires_after};
+ghost use Rattle.outside_doors.specs.Attempts.{waits_in_a_row_after, rests_in_a_row_after};
 ghost use Rattle.outside_socket_doors.specs.Arrivals.{GivesWire, Meets};
 ghost use Rattle.outside_socket_doors.specs.Lines.{told_by_line};
 
@@ -102,6 +103,8 @@ impl<H: Net + Clock + Eprint + Copy + Drop> SocketDoor<H> {
         ensures wires { self.new.wires ≡ wires_after result self.old.wires }
         ensures waits { self.new.waits ≡ waits_after result self.old.waits }
         ensures rests { self.new.rests ≡ self.old.rests }
+        ensures waits_row { self.new.waits_in_a_row ≡ waits_in_a_row_after result self.old.waits_in_a_row }
+        ensures rests_row { self.new.rests_in_a_row ≡ rests_in_a_row_after result self.old.rests_in_a_row }
         ensures closed { self.new.closed ≡ closed_after result self.old.closed }
         ensures cause { HasCause self.old.faults self.new.faults result }
     {
@@ -122,6 +125,8 @@ impl<H: Net + Clock + Eprint + Copy + Drop> SocketDoor<H> {
         ensures wires { self.new.wires ≡ wires_after result self.old.wires }
         ensures waits { self.new.waits ≡ waits_after result self.old.waits }
         ensures rests { self.new.rests ≡ self.old.rests }
+        ensures waits_row { self.new.waits_in_a_row ≡ waits_in_a_row_after result self.old.waits_in_a_row }
+        ensures rests_row { self.new.rests_in_a_row ≡ rests_in_a_row_after result self.old.rests_in_a_row }
         ensures closed { self.new.closed ≡ closed_after result self.old.closed }
         ensures cause { HasCause self.old.faults self.new.faults result }
     {

@@ -84,6 +84,11 @@ module _ {s : State} {xs : List Wait} {n : ℕ} {before now : Exchange} (b : Pas
       → Passed s xs n now × (now.received.waits ≡ suc before.received.waits) × (now.received.ended ≡ false)
   waits_next asks = (none_given asks.came.none asks.silent asks.noted, asks.came.waits, asks.came.ended)
 
+  -- none yet, while something moved
+  pub moves_next : {parts : ProgramParts} → Asks parts next.Moved before now
+      → Passed s xs n now × (now.received.waits ≡ 0) × (now.received.ended ≡ false)
+  moves_next asks = (none_given asks.came.none asks.silent asks.noted, asks.came.waits, asks.came.ended)
+
   -- none any more
   pub ends_next : {parts : ProgramParts} → Asks parts next.End before now → Passed s xs n now × IsOver now
   ends_next asks = (none_given asks.came.none asks.silent asks.noted, inl asks.came.ended)

@@ -273,8 +273,10 @@ over_then before now same unfailed (inl e) = inl (ap (λ (b : Received). b.ended
 over_then before now same unfailed (inr (inl e)) = inr (inl (still_halted before.sent.halted now.sent.halted unfailed e))
 over_then before now same unfailed (inr (inr (inl e))) =
     inr (inr (inl (ap (λ (b : Received). b.waits) same ∙ e)))
-over_then before now same unfailed (inr (inr (inr e))) =
-    inr (inr (inr (subst (λ (b : Received). most_postings ≤ length b.given) (sym same) e)))
+over_then before now same unfailed (inr (inr (inr (inl e)))) =
+    inr (inr (inr (inl (ap (λ (b : Received). b.moves) same ∙ e))))
+over_then before now same unfailed (inr (inr (inr (inr e)))) =
+    inr (inr (inr (inr (subst (λ (b : Received). most_postings ≤ length b.given) (sym same) e))))
 
 -- it gave none when it was asked last
 gave_none : (before now : Exchange) → now.received ≡ before.received → GaveNone now → GaveNone before

@@ -18,7 +18,7 @@ pub use Rattle.run_theorem.specs.Lines.{finished_early}
 use Rattle.run_theorem.specs.Exchange.{Told, Exchange}
 pub use Rattle.run_theorem.specs.Trips.{AreVoid, Travelled}
 pub use Rattle.run_theorem.specs.Picks.{Rules}
-pub use Rattle.run_alone.specs.Overs.{IsOver, LeavesNone, GaveNone, most_waits}
+pub use Rattle.run_alone.specs.Overs.{IsOver, LeavesNone, GaveNone, most_waits, most_moves}
 use Rattle.run_alone.specs.declared.worker.Finished.{Finished}
 
 -- ---- the front

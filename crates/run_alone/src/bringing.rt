@@ -17,7 +17,7 @@ use run_theorem::{Front, Next};
 use session_turn::Seating;
 use std::alloc::AllocError;
 
-/// The most looks in a row that find no posting.
+/// The most looks in a row that find nothing.
 const MOST_LOOKS: u32 = 1_000_000;
 
 impl<S: Seating> Alone<'_, S> {
@@ -51,10 +51,11 @@ impl<S: Seating> Alone<'_, S> {
             unfailed now × LeavesNone before now)) }
     {
         let mut looks = 0;
+        let mut moves = 0;
         let mut unfailed = true;
         'looks: loop {
             let halted = front.halted();
-            let going = may_ask(unfailed, halted, looks, self.pendings.postings());
+            let going = may_ask(unfailed, halted, looks, moves, self.pendings.postings());
             if !going {
                 return Ok(unfailed);
             }
@@ -62,6 +63,10 @@ impl<S: Seating> Alone<'_, S> {
                 Next::Posting(posting) => {
                     looks = 0;
                     unfailed = self.take_in(front, link, &posting)?;
+                }
+                Next::Moved => {
+                    looks = 0;
+                    moves += 1;
                 }
                 Next::NotYet => looks += 1,
                 Next::End => return Ok(unfailed),
@@ -71,8 +76,8 @@ impl<S: Seating> Alone<'_, S> {
 }
 
 /// Whether a posting may be asked for.
-fn may_ask(unfailed: bool, halted: bool, looks: u32, postings: u32) -> bool
-    ensures { result ≡ asks unfailed halted looks postings }
+fn may_ask(unfailed: bool, halted: bool, looks: u32, moves: u64, postings: u32) -> bool
+    ensures { result ≡ asks unfailed halted looks moves postings }
 {
-    unfailed && !halted && looks < MOST_LOOKS && postings < u32::MAX
+    unfailed && !halted && looks < MOST_LOOKS && moves < u64::MAX && postings < u32::MAX
 }

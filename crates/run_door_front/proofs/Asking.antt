@@ -2,11 +2,10 @@
 use Rattle.std.proofs.Common.{◌≡◌, refl, sym, ap, ap₂, ◌∙◌, subst, arith, ℕ, zero, suc, ◌+◌, ◌-◌, ◌^◌, ◌<◌, ◌≤◌, min, Bool, true, false, ◌&&◌, ◌||◌, ◌⊎◌, inl, inr, List, [], ◌∷◌, ◌++◌, length, map, take, None, Some, count_by, slice_get, nat_eq, nat_lt, nat_le, Result, Ok, Err, MatchResult}
 use Rattle.std.specs.declared.alloc.AllocError.{AllocError}
 use Rattle.std.specs.List.{list_all, list_any, sum_by}
-use Rattle.std.proofs.lemmas.Bool.{and_parts, and_from, lt-ltb, ltb-true, ltb-false, leb-false, true≢false}
+use Rattle.std.proofs.lemmas.Bool.{and_parts, and_from, lt-ltb, le-leb, ltb-true, ltb-false, leb-false, true≢false}
 use Rattle.std.proofs.lemmas.List.{length-map, map-append, take_all, length_push}
 use Rattle.jolie_trees.specs.Data.{Tree}
 use Rattle.behaviour_tree.specs.Data.{ProgramParts}
-use Rattle.outside_doors.specs.Counts.{added}
 use Rattle.jsonrpc_text.specs.declared.message.Id.{Id}
 use Rattle.jsonrpc_text.specs.declared.message.Early.{Early}
 use Rattle.jsonrpc_text.specs.declared.message.ReadCall.{ReadCall}
@@ -19,19 +18,19 @@ use Rattle.run_theorem.specs.Lines.{IsPrefix}
 use Rattle.run_theorem.specs.Texts.{Came as Incoming, call_in, posting_of}
 use Rattle.run_theorem.specs.RunConnections.{RunConnection, came_with}
 use Rattle.outside_traits.specs.Told.{WireTold}
-use Rattle.run_door_front.specs.Keeping.{is_led, leads_of, lead_of, Lead, ListenerTold, ClientTold, Keeping, services_of, rests_at, is_open, owes, closed_off, AreLed}
+use Rattle.run_door_front.specs.Keeping.{is_led, leads_of, lead_of, Lead, ListenerTold, Keeping, services_of, rests_at, rests_in_a_row_at, is_quiet, is_open, closed_off, AreLed}
 use Rattle.outside_traits.specs.Told.{SinkTold}
-use Rattle.run_door_front.specs.Exchanged.{most_open, is_for_answer, waits_at, Sides, sides_of, HadNone, GaveNone, HasSent, HasExchanged, MayHaveExchanged}
-use Rattle.run_door_front.specs.NextSteps.{HasNotFallen, service_of, place_of, wires_of, has_room, all_owing, listing, Hands, going_of, Goes, Rests, Ends as EndsFront, Posts, Looks}
+use Rattle.run_door_front.specs.Exchanged.{most_open, Sides, sides_of, row_of, is_full, HadNone, GaveNone, HasSent, HasExchanged, PausedSo, MayHaveExchanged}
+use Rattle.run_door_front.specs.NextSteps.{service_of, place_of, wires_of, has_room, listing, Hands, going_of, Goes, Ends as EndsFront, Posts, IsStill, Stays, Looks}
 use Rattle.run_door_front.proofs.Entries.{length_set, nat_eq_is}
-use Rattle.run_door_front.proofs.Doors.{services-same, places-same, leads-same, waits-on}
+use Rattle.run_door_front.proofs.Doors.{services-same, places-same, leads-same, fallen_further, rests-on}
 use Rattle.run_door_front.proofs.Leading.{led-asked}
 use Rattle.run_door_front.proofs.Looking.{goes-none}
 use Rattle.run_door_front.proofs.Requests.{Serves, serves-on, came_length}
 use Rattle.run_door_front.proofs.OneMore.{one_more, next_of, serves-more, service_there}
 use Rattle.run_door_front.proofs.OneByOne.{told_all, one_count_more, told_first-more, heard_by-more, heard-where_asks}
 use Rattle.run_door_front.proofs.Notes.{noted_all}
-use Rattle.run_door_front.proofs.Waiting.{once_more, doors_waited, links_waits, links_waited, opened_owe, owes-grow, pause_of, pause-count, none_for_wire, paused-all, owing-all, paused-few}
+use Rattle.run_door_front.proofs.Waiting.{AllRows, rows-none, rows-more, once_more, quiet-none, quiet-more, pause_of, pause-count, none_for_wire, paused-all, owing-all, paused-open, paused-rows}
 
 -- ---- calls
 
@@ -71,32 +70,36 @@ places_below m n le (t ∷ told) h =
 take_length : {A : Type 0} (xs : List A) → xs ≡ take (length xs) xs
 take_length xs = sym (take_all (length xs) xs (omega arith))
 
--- where there is no room for one more connection although more may come, as many are open as may be
-many_open : (most : ℕ) (doors : List ListenerTold) (links : List ClientTold) → has_room most (length links) (count_by is_open links) ≡ false
-    → closed_off most doors links ≡ false → most_open ≤ count_by is_open links
-many_open most doors links none more = by_count (nat_lt (count_by is_open links) most_open) refl
+-- where there is no more room as many were accepted as may be, or as many are open as may be at once
+no_room-full : (most accepted opened : ℕ) → has_room most accepted opened ≡ false → nat_le most accepted || nat_le most_open opened ≡ true
+no_room-full most accepted opened none = by_count (nat_le most accepted) refl
   where
-    first_false : (a b : Bool) → a || b ≡ false → a ≡ false
-    first_false true b e = absurd (true≢false e)
-    first_false false b e = refl
+    second : (a b : Bool) → a ≡ true → a && b ≡ false → b ≡ false
+    second a true e f = absurd (true≢false (sym (and_from a true e refl) ∙ f))
+    second a false e f = refl
 
-    by_count : (b : Bool) → nat_lt (count_by is_open links) most_open ≡ b → most_open ≤ count_by is_open links
-    by_count true e =
-        let fewer : length links < most = leb-false most (length links) (first_false (nat_le most (length links)) _ more) in
-        absurd (true≢false (sym (and_from (nat_lt (length links) most) (nat_lt (count_by is_open links) most_open) (lt-ltb (length links) most fewer) e) ∙ none))
-    by_count false e = ltb-false (count_by is_open links) most_open e
+    by_count : (b : Bool) → nat_le most accepted ≡ b → b || nat_le most_open opened ≡ true
+    by_count true e = refl
+    by_count false e =
+        le-leb most_open opened (ltb-false opened most_open
+        (second (nat_lt accepted most) (nat_lt opened most_open) (lt-ltb accepted most (leb-false most accepted e)) none))
 
--- of two of which not both are so one is not, or the other is not
-not_both : (a b : Bool) → a && b ≡ false → (b ≡ false) ⊎ ((b ≡ true) × (a ≡ false))
-not_both a true e = inr (refl, only a e)
-  where
-    only : (a : Bool) → a && true ≡ false → a ≡ false
-    only true h = absurd (true≢false h)
-    only false h = refl
-not_both a false e = inl refl
+-- with any last value of their type
+none_counted : (cap : ℕ) → min 0 cap ≡ 0
+none_counted cap = omega arith
+
+least : (a b : ℕ) → a ≡ 0 → a ≤ b
+least a b e = omega arith
+
+-- how a front stood that found nothing so often in a row
+record WasStill (row : ℕ) (kept : Keeping) : Type 0 where
+  rows : AllRows row kept.connections
+  rested : row ≤ rests_in_a_row_at kept.doors
+  quiet : (nat_le kept.most (length kept.connections) || nat_le most_open (count_by is_open kept.connections) ≡ true)
+      ⊎ (list_all (is_quiet row) kept.doors ≡ true)
 
 module _ (IsMade : WireTold → Type 0) (parts : ProgramParts) (first : Sides) (notes : SinkTold) (before now : Keeping) (d : Exchange)
-    (h : HasExchanged IsMade parts first (sides_of before notes) d) (most : now.most ≡ before.most) (halted : now.halted ≡ before.halted) where
+    (h : HasExchanged IsMade parts first (sides_of before notes) d) (paused : PausedSo false before d) (most : now.most ≡ before.most) (halted : now.halted ≡ before.halted) where
   -- what was asked and told by then
   serves : Serves IsMade parts (leads_of before) before.connections h.all h.heard
   serves = record { connections = h.connections; are = h.clients; doors = h.at_doors; taken = h.taken; came = h.came; answers = h.answers }
@@ -122,12 +125,13 @@ module _ (IsMade : WireTold → Type 0) (parts : ProgramParts) (first : Sides) (
   all_taken running = noted_all first.notes notes d.sent h.sent.notes running h.sent.noted
 
   -- what was received where there is no posting
-  abbrev without : ℕ → Bool → Received
-  without waits ended = record {
+  abbrev without : ℕ → ℕ → Bool → Received
+  without waits moves ended = record {
     given = d.received.given;
     asked = d.received.asked;
     left = None;
     waits = waits;
+    moves = moves;
     ended = ended;
     faults = d.received.faults;
     seen = length d.sent.told;
@@ -135,9 +139,13 @@ module _ (IsMade : WireTold → Type 0) (parts : ProgramParts) (first : Sides) (
     seens = d.received.seens;
   }
 
-  gives_none : (waits : ℕ) (ended : Bool) → GivesNone d.received (without waits ended)
-  gives_none waits ended =
+  gives_none : (waits moves : ℕ) (ended : Bool) → GivesNone d.received (without waits moves ended)
+  gives_none waits moves ended =
       record { given = refl; asked = refl; left = inl (sym h.left); faults = omega arith; seens = refl }
+
+  -- what passed, and why there was no posting where there was none
+  abbrev HasPassed : Exchange → Type 0
+  HasPassed x = HasExchanged IsMade parts first (sides_of now notes) x × PausedSo false now x
 
   -- ---- there is no posting
 
@@ -151,10 +159,9 @@ module _ (IsMade : WireTold → Type 0) (parts : ProgramParts) (first : Sides) (
     still_serves : Serves IsMade parts (leads_of before) now.connections h.all h.heard
     still_serves = serves-on IsMade (leads_of before) parts before.connections now.connections h.all h.heard g.connections serves
 
-    none-so : d.sent.halted ≡ false → (waits : ℕ) (ended : Bool)
-        → (d.sent.halted ≡ false → HadNone now (record { received = without waits ended; sent = d.sent }) ⊎ (most_postings ≤ length d.received.given))
-        → HasExchanged IsMade parts first (sides_of now notes) (record { received = without waits ended; sent = d.sent })
-    none-so running waits ended none = record {
+    none-so : d.sent.halted ≡ false → (waits moves : ℕ) (ended : Bool) → min moves (2 ^ 64 - 1) ≤ rests_at now.doors
+        → HasExchanged IsMade parts first (sides_of now notes) (record { received = without waits moves ended; sent = d.sent })
+    none-so running waits moves ended moved = record {
       services = same_services ∙ h.services;
       in_place = places-same before.doors now.doors g.doors ∙ h.in_place;
       most = most ∙ h.most;
@@ -183,160 +190,150 @@ module _ (IsMade : WireTold → Type 0) (parts : ProgramParts) (first : Sides) (
       left = refl;
       faults = h.faults;
       seen = omega arith;
-      none = λ unfailed gave. none unfailed;
+      moved = moved;
     }
 
-  ends : Ends d.received (without 0 true)
+    -- no more looks at which something moved
+    moved_still : min d.received.moves (2 ^ 64 - 1) ≤ rests_at now.doors
+    moved_still = fallen_further d.received.moves (rests_at before.doors) (rests_at now.doors) (2 ^ 64 - 1) h.moved (rests-on before.doors now.doors g.doors)
+
+  ends : Ends d.received (without 0 d.received.moves true)
   ends = record {
-    none = gives_none 0 true;
+    none = gives_none 0 d.received.moves true;
     over = none_left (λ ps is. absurd (let clash : None ≡ Some ps = sym h.left ∙ is in cc));
     waits = refl;
+    moves = refl;
     ended = refl;
   }
 
+  abbrev ended_now : Exchange
+  ended_now = record { received = without 0 d.received.moves true; sent = d.sent }
+
   -- there were the most postings
   most-so : d.sent.halted ≡ false → going_of now ≡ going_of before → most_postings ≤ length before.traffics
-      → After (HasExchanged IsMade parts first (sides_of now notes)) (Asks parts nexts.End d)
+      → After HasPassed (Asks parts nexts.End d)
   most-so running same many =
       let g = subst (λ x. Goes IsMade before.most (going_of before) x) (sym same) (goes-none IsMade before.most (going_of before)) in (
-        record { received = without 0 true; sent = d.sent },
-        none-so g running 0 true (λ unfailed. inr (subst (λ n. most_postings ≤ n) (sym given_count) many)),
+        ended_now,
+        (none-so g running 0 d.received.moves true (moved_still g), λ unfailed gave. inr (subst (λ n. most_postings ≤ n) (sym given_count) many)),
         record { came = ends; silent = refl; seen = refl; noted = refl },
       )
 
   -- nothing comes any more
-  over-so : d.sent.halted ≡ false → EndsFront IsMade before.most (going_of before) (going_of now)
-      → After (HasExchanged IsMade parts first (sides_of now notes)) (Asks parts nexts.End d)
+  none_over : d.sent.halted ≡ false → EndsFront IsMade before.most (going_of before) (going_of now) → HadNone false now ended_now
+  none_over unfailed e = record {
+    pauses = map pause_of now.connections;
+    each = owing-all IsMade parts (leads_of before) now.connections h.all h.heard ended_now (still_serves e.goes) h.asked
+        (h.all_told unfailed ∙ take_length d.sent.told) e.owing;
+    over = λ ended. (ap (λ n. closed_off n now.doors now.connections) most ∙ e.over, none_for_wire now.connections e.owing);
+    rested = least (row_of ended_now) (rests_in_a_row_at now.doors) (none_counted (2 ^ 64 - 1));
+    quiet = inr (quiet-none (row_of ended_now) (none_counted (2 ^ 64 - 1)) now.doors);
+  }
+
+  over-so : d.sent.halted ≡ false → EndsFront IsMade before.most (going_of before) (going_of now) → After HasPassed (Asks parts nexts.End d)
   over-so running e = (
-    record { received = without 0 true; sent = d.sent },
-    none-so e.goes running 0 true (λ unfailed. inl (record {
-      pauses = map pause_of now.connections;
-      each = owing-all IsMade parts (leads_of before) now.connections h.all h.heard (record { received = without 0 true; sent = d.sent }) (still_serves e.goes) h.asked
-          (h.all_told unfailed ∙ take_length d.sent.told) e.owing;
-      over = λ ended. (ap (λ n. closed_off n now.doors now.connections) most ∙ e.over, none_for_wire now.connections e.owing);
-      waited = λ ended. absurd (true≢false ended);
-      rested = λ ended. absurd (true≢false ended);
-    })),
+    ended_now,
+    (none-so e.goes running 0 d.received.moves true (moved_still e.goes), λ unfailed gave. inl (none_over unfailed e)),
     record { came = ends; silent = refl; seen = refl; noted = refl },
   )
 
-  -- nothing comes for now
-  module _ (r : Rests IsMade before.most (going_of before) (going_of now)) (yet : d.received.ended ≡ false) (quiet : IsQuiet d)
-      (more : added (rests_at before.doors) 1 ≤ rests_at now.doors) where
-    at_rest : Serves IsMade parts (leads_of before) now.connections h.all h.heard
-    at_rest = still_serves r.goes
+  -- ---- there is none yet
 
+  -- something moved
+  moved-so : d.sent.halted ≡ false → Stays IsMade before.most (going_of before) (going_of now) → After HasPassed (Asks parts nexts.Moved d)
+  moved-so running r = (
+    record { received = without 0 (suc d.received.moves) false; sent = d.sent },
+    (
+      none-so r.rests.goes running 0 (suc d.received.moves) false
+          (once_more d.received.moves (rests_at before.doors) (2 ^ 64 - 1) (rests_at now.doors) h.moved (r.more h.came_in)),
+      λ unfailed gave. absurd (not_none gave),
+    ),
+    record {
+      came = record { none = gives_none 0 (suc d.received.moves) false; waits = refl; moves = refl; ended = refl };
+      silent = refl;
+      seen = refl;
+      noted = refl;
+    },
+  )
+    where
+      not_none : (false ≡ true) ⊎ (0 < 0) → ⊥
+      not_none (inl ended) = true≢false (sym ended)
+      not_none (inr waits) = omega arith
+
+  -- nothing moved
+  module _ (r : Stays IsMade before.most (going_of before) (going_of now)) (s : IsStill before.most (going_of before) (going_of now)) (quiet : IsQuiet d) where
     abbrev waits_now : Exchange
-    waits_now = record { received = without (suc d.received.waits) false; sent = d.sent }
+    waits_now = record { received = without (suc d.received.waits) d.received.moves false; sent = d.sent }
 
-    abbrev waits_before : ℕ
-    waits_before = waits_at before.doors before.connections
-
-    abbrev waits_then : ℕ
-    waits_then = waits_at now.doors now.connections
-
-    -- with any last value of their type
-    first_more : (a b c e cap : ℕ) → min (a + 1) cap ≤ c → min b cap ≤ e → min (a + b + 1) cap ≤ c + e
-    first_more a b c e cap x y = omega arith
-
-    second_more : (a b c e cap : ℕ) → min a cap ≤ c → min (b + 1) cap ≤ e → min (a + b + 1) cap ≤ c + e
-    second_more a b c e cap x y = omega arith
-
-    -- as many owe an answer as may be open, or doors and wires waited once more
-    waited_more : (most_open ≤ count_by owes now.connections) ⊎ (added waits_before 1 ≤ waits_then)
-    waited_more = elim (not_both (closed_off before.most now.doors now.connections) (all_owing now.connections) r.some) [
-      | inl unowed ↦ inr (second_more (sum_by (λ (p : ListenerTold). p.door.waits) before.doors) (sum_by (λ (l : ClientTold). l.waits) before.connections)
-          (sum_by (λ (p : ListenerTold). p.door.waits) now.doors) (sum_by (λ (l : ClientTold). l.waits) now.connections) (2 ^ 64 - 1)
-          (waits-on before.doors now.doors r.goes.doors)
-          (links_waited IsMade (leads_of before) before.connections now.connections r.goes.connections r.paused unowed))
-      | inr owing ↦ elim r.tried [
-        | inl none ↦ inl (
-            let all = many_open before.most now.doors now.connections none owing.1 in
-            let few = opened_owe now.connections owing.0 in
-            omega (arith, all, few))
-        | inr tried ↦ inr (first_more (sum_by (λ (p : ListenerTold). p.door.waits) before.doors) (sum_by (λ (l : ClientTold). l.waits) before.connections)
-            (sum_by (λ (p : ListenerTold). p.door.waits) now.doors) (sum_by (λ (l : ClientTold). l.waits) now.connections) (2 ^ 64 - 1)
-            (doors_waited before.doors now.doors r.goes.doors tried (second_false (nat_le before.most (length now.connections)) _ owing.1))
-            (links_waits IsMade (leads_of before) before.connections now.connections r.goes.connections))
-      ]
-    ]
-      where
-        second_false : (a b : Bool) → a || b ≡ false → b ≡ false
-        second_false true b e = absurd (true≢false e)
-        second_false false b e = e
-
-    -- doors and wires waited at least as often as before
-    not_fewer : HasNotFallen waits_before waits_then
-    not_fewer = both (sum_by (λ (p : ListenerTold). p.door.waits) before.doors) (sum_by (λ (l : ClientTold). l.waits) before.connections)
-        (sum_by (λ (p : ListenerTold). p.door.waits) now.doors) (sum_by (λ (l : ClientTold). l.waits) now.connections) (2 ^ 64 - 1)
-        (waits-on before.doors now.doors r.goes.doors) (links_waits IsMade (leads_of before) before.connections now.connections r.goes.connections)
-      where
-        both : (a b c e cap : ℕ) → min a cap ≤ c → min b cap ≤ e → min (a + b) cap ≤ c + e
-        both a b c e cap x y = omega arith
-
-    none : (w cap n : ℕ) → w ≡ 0 → min w cap ≤ n
-    none w cap n e = omega arith
+    at_rest : Serves IsMade parts (leads_of before) now.connections h.all h.heard
+    at_rest = still_serves r.rests.goes
 
     positive : (n w : ℕ) → w ≡ suc n → 0 < w
     positive n w e = omega arith
 
-    abbrev IsSo : Type 0
-    IsSo = ((most_open ≤ count_by owes now.connections) ⊎ (min (suc d.received.waits) (2 ^ 64 - 1) ≤ waits_then)) × (min (suc d.received.waits) (2 ^ 64 - 1) ≤ rests_at now.doors)
-
-    -- once more since it was so before
-    once : (min d.received.waits (2 ^ 64 - 1) ≤ waits_before) → (min d.received.waits (2 ^ 64 - 1) ≤ rests_at before.doors) → IsSo
-    once few rest = (
-      elim waited_more [
-        | inl many ↦ inl many
-        | inr waited ↦ inr (once_more d.received.waits waits_before (2 ^ 64 - 1) waits_then few waited)
-      ],
-      once_more d.received.waits (rests_at before.doors) (2 ^ 64 - 1) (rests_at now.doors) rest more,
-    )
-
-    -- those that owed an answer owe it
-    still_many : d.sent.halted ≡ false → (n : ℕ) → d.received.waits ≡ suc n → (had : HadNone before d) → most_open ≤ count_by is_for_answer had.pauses
-        → most_open ≤ count_by owes now.connections
-    still_many unfailed n is had many =
-        let few = paused-few IsMade parts (leads_of before) before.connections h.all h.heard d serves h.asked
-        (h.all_told unfailed ∙ take_length d.sent.told ∙ ap (λ k. take k d.sent.told) (sym (quiet (positive n d.received.waits is)))) had.pauses had.each in
-        let grow = owes-grow IsMade (leads_of before) before.connections now.connections r.goes.connections in
-        omega (arith, many, few, grow)
-
-    is_so : d.sent.halted ≡ false → IsSo ⊎ (most_postings ≤ length d.received.given)
-    is_so unfailed = by_waits d.received.waits refl
+    was_still : d.sent.halted ≡ false → WasStill (row_of d) before ⊎ (most_postings ≤ length d.received.given)
+    was_still unfailed = by_waits d.received.waits refl
       where
-        by_waits : (n : ℕ) → d.received.waits ≡ n → IsSo ⊎ (most_postings ≤ length d.received.given)
-        by_waits zero is = inl (once (none d.received.waits (2 ^ 64 - 1) waits_before is) (none d.received.waits (2 ^ 64 - 1) (rests_at before.doors) is))
-        by_waits (suc n) is = elim (h.none unfailed (inr (positive n d.received.waits is))) [
-          | inl had ↦ inl (elim (had.waited yet) [
-            | inl many ↦ (inl (still_many unfailed n is had many), once_more d.received.waits (rests_at before.doors) (2 ^ 64 - 1) (rests_at now.doors) (had.rested yet) more)
-            | inr few ↦ once few (had.rested yet)
-          ])
+        at_first : d.received.waits ≡ 0 → WasStill (row_of d) before
+        at_first none =
+            let no_row : row_of d ≡ 0 = ap (λ n. min n (2 ^ 64 - 1)) none ∙ none_counted (2 ^ 64 - 1) in
+            record {
+              rows = rows-none (row_of d) no_row before.connections;
+              rested = least (row_of d) (rests_in_a_row_at before.doors) no_row;
+              quiet = inr (quiet-none (row_of d) no_row before.doors);
+            }
+
+        by_pauses : (n : ℕ) → d.received.waits ≡ suc n → HadNone false before d → WasStill (row_of d) before
+        by_pauses n is had =
+            let told = h.all_told unfailed ∙ take_length d.sent.told ∙ ap (λ k. take k d.sent.told) (sym (quiet (positive n d.received.waits is))) in
+            let opened = paused-open IsMade parts (leads_of before) before.connections h.all h.heard d serves h.asked told had.pauses had.each in
+            record {
+              rows = paused-rows IsMade parts (leads_of before) before.connections h.all h.heard d serves h.asked told had.pauses had.each;
+              rested = had.rested;
+              quiet = elim had.quiet [
+                | inl full ↦ inl (ap (λ n. nat_le before.most (length before.connections) || nat_le most_open n) (sym opened) ∙ full)
+                | inr all ↦ inr all
+              ];
+            }
+
+        by_waits : (n : ℕ) → d.received.waits ≡ n → WasStill (row_of d) before ⊎ (most_postings ≤ length d.received.given)
+        by_waits zero is = inl (at_first is)
+        by_waits (suc n) is = elim (paused unfailed (inr (positive n d.received.waits is))) [
+          | inl had ↦ inl (by_pauses n is had)
           | inr many ↦ inr many
         ]
 
-    none_yet : d.sent.halted ≡ false → HadNone now waits_now ⊎ (most_postings ≤ length d.received.given)
-    none_yet unfailed = elim (is_so unfailed) [
-      | inl so ↦ inl (record {
-        pauses = map pause_of now.connections;
-        each = paused-all IsMade parts (leads_of before) now.connections h.all h.heard waits_now at_rest h.asked (h.all_told unfailed ∙ take_length d.sent.told)
-            before.connections r.paused;
-        over = λ e. absurd (true≢false (sym e));
-        waited = λ e. elim so.0 [
-          | inl many ↦ inl (subst (λ n. most_open ≤ n) (sym (pause-count now.connections)) many)
-          | inr few ↦ inr few
-        ];
-        rested = λ e. so.1;
-      })
-      | inr many ↦ inr many
-    ]
+    -- nobody is let in, by how many are open
+    full_now : nat_le before.most (length now.connections) || nat_le most_open (count_by is_open now.connections) ≡ true
+        → is_full now (map pause_of now.connections) ≡ true
+    full_now full =
+        ap₂ (λ m n. nat_le m (length now.connections) || nat_le most_open n) most (pause-count now.connections) ∙ full
 
-    yet-so : d.sent.halted ≡ false → After (HasExchanged IsMade parts first (sides_of now notes)) (Asks parts nexts.NotYet d)
-    yet-so running = (
+    still_now : d.sent.halted ≡ false → WasStill (row_of d) before → HadNone false now waits_now
+    still_now unfailed was = record {
+      pauses = map pause_of now.connections;
+      each = paused-all IsMade parts (leads_of before) now.connections h.all h.heard waits_now at_rest h.asked (h.all_told unfailed ∙ take_length d.sent.told)
+          (rows-more IsMade (leads_of before) d.received.waits before.connections now.connections r.rests.goes.connections s.paused was.rows);
+      over = λ e. absurd (true≢false (sym e));
+      rested = once_more d.received.waits (rests_in_a_row_at before.doors) (2 ^ 64 - 1) (rests_in_a_row_at now.doors) was.rested (s.rests h.came_in);
+      quiet = elim (s.tried h.came_in) [
+        | inl none ↦ inl (full_now (no_room-full before.most (length now.connections) (count_by is_open now.connections) none))
+        | inr tried ↦ elim was.quiet [
+          | inl full ↦ inl (full_now (ap₂ (λ m n. nat_le before.most m || nat_le most_open n) s.as_many s.as_open ∙ full))
+          | inr all ↦ inr (quiet-more d.received.waits before.doors now.doors r.rests.goes.doors tried all)
+        ]
+      ];
+    }
+
+    still-so : d.sent.halted ≡ false → After HasPassed (Asks parts nexts.NotYet d)
+    still-so running = (
       waits_now,
-      none-so r.goes running (suc d.received.waits) false none_yet,
+      (
+        none-so r.rests.goes running (suc d.received.waits) d.received.moves false (moved_still r.rests.goes),
+        λ unfailed gave. elim (was_still unfailed) [ inl was ↦ inl (still_now unfailed was) | inr many ↦ inr many ],
+      ),
       record {
-        came = record { none = gives_none (suc d.received.waits) false; waits = refl; ended = refl };
+        came = record { none = gives_none (suc d.received.waits) d.received.moves false; waits = refl; moves = refl; ended = refl };
         silent = refl;
         seen = refl;
         noted = refl;
@@ -373,6 +370,7 @@ module _ (IsMade : WireTold → Type 0) (parts : ProgramParts) (first : Sides) (
       asked = d.received.asked ++ asker ∷ [];
       left = None;
       waits = 0;
+      moves = d.received.moves;
       ended = false;
       faults = d.received.faults;
       seen = length d.sent.told;
@@ -450,7 +448,8 @@ module _ (IsMade : WireTold → Type 0) (parts : ProgramParts) (first : Sides) (
       left = refl;
       faults = h.faults;
       seen = omega arith;
-      none = λ unfailed gave. absurd (none_now gave);
+      moved = subst (λ ps. min d.received.moves (2 ^ 64 - 1) ≤ rests_at ps) (sym g.doors)
+          (fallen_further d.received.moves (rests_at before.doors) (rests_at g.mid.doors) (2 ^ 64 - 1) h.moved (rests-on before.doors g.mid.doors g.goes.doors));
     }
 
     has_service : nat_lt hands.one.link.service (length parts.services) ≡ true
@@ -471,28 +470,34 @@ module _ (IsMade : WireTold → Type 0) (parts : ProgramParts) (first : Sides) (
           (all_named parts hands.one.link.service has_service coming.read.calls);
       left = subst (λ l. Leaves p l d.received received_now) (sym h.left) refl;
       waits = refl;
+      moves = refl;
       ended = refl;
       faults = omega arith;
       seens = refl;
     }
 
-    post-so : After (HasExchanged IsMade parts first (sides_of now notes)) (Asks parts (nexts.Posting p) d)
-    post-so = (record { received = received_now; sent = d.sent }, exchanged_now, record { came = gives_now; silent = refl; seen = refl; noted = refl })
+    post-so : After HasPassed (Asks parts (nexts.Posting p) d)
+    post-so = (
+      record { received = received_now; sent = d.sent },
+      (exchanged_now, λ unfailed gave. absurd (none_now gave)),
+      record { came = gives_now; silent = refl; seen = refl; noted = refl },
+    )
 
   -- ---- all of it
 
   -- what the call came to
-  pub asked-so : (which : Next) → d.received.ended ≡ false → d.sent.halted ≡ false → IsQuiet d → Looks IsMade before.most which (going_of before) (going_of now)
-      → After (HasExchanged IsMade parts first (sides_of now notes)) (Asks parts which d)
-  asked-so (nexts.Posting p) yet running quiet l = post-so p running l
-  asked-so nexts.NotYet yet running quiet l = yet-so l.0 yet quiet (l.2 h.came_in) running
-  asked-so nexts.End yet running quiet l =
+  pub asked-so : (which : Next) → d.sent.halted ≡ false → IsQuiet d → Looks IsMade before.most which (going_of before) (going_of now)
+      → After HasPassed (Asks parts which d)
+  asked-so (nexts.Posting p) running quiet l = post-so p running l
+  asked-so nexts.Moved running quiet l = moved-so running l
+  asked-so nexts.NotYet running quiet l = still-so l.0 l.1 quiet running
+  asked-so nexts.End running quiet l =
       elim l [ inl many ↦ most-so running many.1 many.0 | inr ended ↦ over-so running ended ]
 
 -- ---- and where memory ran out
 
 module _ (IsMade : WireTold → Type 0) (parts : ProgramParts) (A B : Type 0) (a : A) (b : B) (first : Sides) (notes : SinkTold) (before now : Keeping) (d : Exchange)
-    (most : now.most ≡ before.most) (halted : now.halted ≡ before.halted) (yet : d.received.ended ≡ false) (running : d.sent.halted ≡ false) (quiet : IsQuiet d) where
+    (most : now.most ≡ before.most) (halted : now.halted ≡ before.halted) (running : d.sent.halted ≡ false) (quiet : IsQuiet d) where
   -- the same front, as far as its outside is concerned
   abbrev Same : Keeping → Exchange → Type 0
   Same k x = A × B × MayHaveExchanged IsMade parts first (sides_of k notes) x
@@ -503,7 +508,7 @@ module _ (IsMade : WireTold → Type 0) (parts : ProgramParts) (A B : Type 0) (a
   next-so may (Ok which) looks = elim may [
     | inl out ↦ absurd (true≢false (sym out.0 ∙ looks.0))
     | inr h ↦
-        let passed = asked-so IsMade parts first notes before now d h most halted which yet running quiet looks.2 in
+        let passed = asked-so IsMade parts first notes before now d h.0 h.1 most halted which running quiet looks.2 in
         (passed.0, (a, b, inr passed.1), passed.2)
   ]
-  next-so may (Err error) spent = (a, b, inl (spent, elim may [ inl out ↦ out.1 ∙ sym halted | inr h ↦ h.sent.halted ∙ sym halted ]))
+  next-so may (Err error) spent = (a, b, inl (spent, elim may [ inl out ↦ out.1 ∙ sym halted | inr h ↦ h.0.sent.halted ∙ sym halted ]))

@@ -1,6 +1,7 @@
 -- What passed with a front, by what its doors and connections are once all that is due is written.
-use Rattle.std.proofs.Common.{◌≡◌, refl, sym, ap, ap₂, ◌∙◌, subst, arith, ℕ, suc, ◌+◌, ◌-◌, ◌^◌, ◌<◌, ◌≤◌, min, Bool, true, ◌&&◌, ◌||◌, inl, inr, List, [], ◌∷◌, length, map, nat_lt, nat_le}
+use Rattle.std.proofs.Common.{◌≡◌, refl, sym, ap, ap₂, ◌∙◌, subst, arith, ℕ, suc, ◌+◌, ◌-◌, ◌^◌, ◌≤◌, min, Bool, true, false, cond, ◌&&◌, ◌||◌, inl, inr, List, [], ◌∷◌, length, map, count_by, nat_lt, nat_le}
 use Rattle.std.specs.List.{list_all, list_any, sum_by}
+use Rattle.std.proofs.lemmas.Bool.{leb-true, true≢false}
 use Rattle.std.proofs.lemmas.List.Sums.{sum_by-cons}
 use Rattle.behaviour_tree.specs.Data.{ProgramParts}
 use Rattle.outside_doors.specs.Counts.{has_ended}
@@ -8,10 +9,11 @@ use Rattle.run_theorem.specs.Exchange.{Exchange}
 use Rattle.run_theorem.specs.RunConnections.{RunConnection}
 use Rattle.conn_future.specs.Stages.{IsOver}
 use Rattle.outside_traits.specs.Told.{SinkTold, WireTold}
-use Rattle.run_door_front.specs.Keeping.{is_led, lead_of, leads_of, ListenerTold, ClientTold, Keeping, stage_at, services_of, rests_at, wires_to}
-use Rattle.run_door_front.specs.Exchanged.{Pause, for_answer, for_wire, at_end, WasPaused, WerePaused, waits_at, HadNone, Sides, sides_of, HasExchanged}
+use Rattle.run_door_front.specs.Keeping.{is_led, lead_of, leads_of, ListenerTold, ClientTold, Keeping, stage_at, services_of, rests_at, rests_in_a_row_at, is_quiet, wires_to}
+use Rattle.run_door_front.specs.Exchanged.{most_open, Pause, for_answer, for_wire, for_room, at_end, is_for_wire, is_unended, AreClients, row_of, WasPaused, WerePaused, HadNone, PausedSo, Sides, sides_of, HasExchanged}
 use Rattle.run_door_front.specs.NextSteps.{HasNotFallen, ClientGoesOn, ClientsGoOn, wires_of, service_of, place_of}
 use Rattle.run_door_front.specs.Draining.{AreRested}
+use Rattle.run_door_front.proofs.Entries.{one_if, count_cons}
 use Rattle.run_door_front.proofs.Doors.{sum_not_fallen, not_fallen}
 use Rattle.run_door_front.proofs.Links.{clients-long, links-same, links-on}
 use Rattle.run_door_front.proofs.Looking.{leads_on}
@@ -19,66 +21,128 @@ use Rattle.run_door_front.proofs.Requests.{Serves, serves-on}
 
 -- ---- doors that were rested at
 
+-- a door that was rested at so often, and so often in a row
+abbrev with_rests : ListenerTold → ℕ → ℕ → ListenerTold
+with_rests p n m = record p { door = record p.door { rests = n; rests_in_a_row = m } }
+
 -- what does not speak of rests stays
-pub map_rested : {A : Type 0} (f : ListenerTold → A) → ((p : ListenerTold) (n : ℕ) → f (record p { door = record p.door { rests = n } }) ≡ f p)
+pub map_rested : {A : Type 0} (f : ListenerTold → A) → ((p : ListenerTold) (n m : ℕ) → f (with_rests p n m) ≡ f p)
     → (ps qs : List ListenerTold) → AreRested ps qs → map f qs ≡ map f ps
 map_rested f same [] [] g = refl
 map_rested f same [] (q ∷ qs) g = absurd g
 map_rested f same (p ∷ ps) [] g = absurd g
-map_rested f same (p ∷ ps) (q ∷ qs) g = ap₂ (λ x xs. x ∷ xs) (ap f g.0 ∙ same p q.door.rests) (map_rested f same ps qs g.2)
+map_rested f same (p ∷ ps) (q ∷ qs) g = ap₂ (λ x xs. x ∷ xs) (ap f g.0 ∙ same p q.door.rests q.door.rests_in_a_row) (map_rested f same ps qs g.3)
 
-pub sum_rested : (f : ListenerTold → ℕ) → ((p : ListenerTold) (n : ℕ) → f (record p { door = record p.door { rests = n } }) ≡ f p)
+pub sum_rested : (f : ListenerTold → ℕ) → ((p : ListenerTold) (n m : ℕ) → f (with_rests p n m) ≡ f p)
     → (ps qs : List ListenerTold) → AreRested ps qs → sum_by f qs ≡ sum_by f ps
 sum_rested f same [] [] g = refl
 sum_rested f same [] (q ∷ qs) g = absurd g
 sum_rested f same (p ∷ ps) [] g = absurd g
 sum_rested f same (p ∷ ps) (q ∷ qs) g =
-    sum_by-cons f q qs ∙ ap₂ (λ m n. m + n) (ap f g.0 ∙ same p q.door.rests) (sum_rested f same ps qs g.2) ∙ sym (sum_by-cons f p ps)
+    sum_by-cons f q qs ∙ ap₂ (λ m n. m + n) (ap f g.0 ∙ same p q.door.rests q.door.rests_in_a_row) (sum_rested f same ps qs g.3) ∙ sym (sum_by-cons f p ps)
 
-all_rested : (f : ListenerTold → Bool) → ((p : ListenerTold) (n : ℕ) → f (record p { door = record p.door { rests = n } }) ≡ f p)
+all_rested : (f : ListenerTold → Bool) → ((p : ListenerTold) (n m : ℕ) → f (with_rests p n m) ≡ f p)
     → (ps qs : List ListenerTold) → AreRested ps qs → list_all f qs ≡ list_all f ps
 all_rested f same [] [] g = refl
 all_rested f same [] (q ∷ qs) g = absurd g
 all_rested f same (p ∷ ps) [] g = absurd g
-all_rested f same (p ∷ ps) (q ∷ qs) g = ap₂ (λ a b. a && b) (ap f g.0 ∙ same p q.door.rests) (all_rested f same ps qs g.2)
+all_rested f same (p ∷ ps) (q ∷ qs) g = ap₂ (λ a b. a && b) (ap f g.0 ∙ same p q.door.rests q.door.rests_in_a_row) (all_rested f same ps qs g.3)
 
-rests_rested : (ps qs : List ListenerTold) → AreRested ps qs → HasNotFallen (rests_at ps) (rests_at qs)
+pub rests_rested : (ps qs : List ListenerTold) → AreRested ps qs → HasNotFallen (rests_at ps) (rests_at qs)
 rests_rested [] [] g = not_fallen 0 (2 ^ 64 - 1)
 rests_rested [] (q ∷ qs) g = absurd g
 rests_rested (p ∷ ps) [] g = absurd g
 rests_rested (p ∷ ps) (q ∷ qs) g =
     sum_not_fallen p.door.rests (rests_at ps) q.door.rests (rests_at qs) (rests_at (p ∷ ps)) (rests_at (q ∷ qs)) (2 ^ 64 - 1)
-    (sum_by-cons (λ (p : ListenerTold). p.door.rests) p ps) (sum_by-cons (λ (p : ListenerTold). p.door.rests) q qs) g.1 (rests_rested ps qs g.2)
+    (sum_by-cons (λ (p : ListenerTold). p.door.rests) p ps) (sum_by-cons (λ (p : ListenerTold). p.door.rests) q qs) g.1 (rests_rested ps qs g.3)
+
+rows_rested : (ps qs : List ListenerTold) → AreRested ps qs → HasNotFallen (rests_in_a_row_at ps) (rests_in_a_row_at qs)
+rows_rested [] [] g = not_fallen 0 (2 ^ 64 - 1)
+rows_rested [] (q ∷ qs) g = absurd g
+rows_rested (p ∷ ps) [] g = absurd g
+rows_rested (p ∷ ps) (q ∷ qs) g =
+    sum_not_fallen p.door.rests_in_a_row (rests_in_a_row_at ps) q.door.rests_in_a_row (rests_in_a_row_at qs)
+    (rests_in_a_row_at (p ∷ ps)) (rests_in_a_row_at (q ∷ qs)) (2 ^ 64 - 1)
+    (sum_by-cons (λ (p : ListenerTold). p.door.rests_in_a_row) p ps) (sum_by-cons (λ (p : ListenerTold). p.door.rests_in_a_row) q qs)
+    g.2 (rows_rested ps qs g.3)
 
 -- ---- connections that went on
 
-waits_on : (ls ms : List ClientTold) → ClientsGoOn ls ms → HasNotFallen (sum_by (λ (l : ClientTold). l.waits) ls) (sum_by (λ (l : ClientTold). l.waits) ms)
-waits_on [] [] g = not_fallen 0 (2 ^ 64 - 1)
-waits_on [] (m ∷ ms) g = absurd g
-waits_on (l ∷ ls) [] g = absurd g
-waits_on (l ∷ ls) (m ∷ ms) g =
-    sum_not_fallen l.waits (sum_by (λ (l : ClientTold). l.waits) ls) m.waits (sum_by (λ (l : ClientTold). l.waits) ms)
-    (sum_by (λ (l : ClientTold). l.waits) (l ∷ ls)) (sum_by (λ (l : ClientTold). l.waits) (m ∷ ms)) (2 ^ 64 - 1)
-    (sum_by-cons (λ (l : ClientTold). l.waits) l ls) (sum_by-cons (λ (l : ClientTold). l.waits) m ms) g.0.waits (waits_on ls ms g.1)
+-- no wire has answered more often in a row than in its longest row
+abbrev AreWithin : List ClientTold → Type 0
+AreWithin [] = Unit {0}
+AreWithin (l ∷ ls) = (l.in_a_row ≤ l.longest) × AreWithin ls
 
-still_some : (a b : ℕ) → 0 < a → HasNotFallen a b → 0 < b
-still_some a b h k = by (2 ^ 64 - 1) k (omega arith)
+are_within : (IsMade : WireTold → Type 0) (ls : List ClientTold) (vs : List RunConnection) → AreClients IsMade ls vs → AreWithin ls
+are_within IsMade [] [] a = tt
+are_within IsMade [] (v ∷ vs) a = absurd a
+are_within IsMade (l ∷ ls) [] a = absurd a
+are_within IsMade (l ∷ ls) (v ∷ vs) a = (a.0.row, are_within IsMade ls vs a.1)
+
+-- why nothing came of a connection, by how it is once what is due is written
+abbrev pause_then : ℕ → Pause → ClientTold → Pause
+pause_then row for_answer m = for_answer
+pause_then row for_wire m = cond (nat_le row m.in_a_row) for_wire for_room
+pause_then row for_room m = for_room
+pause_then row at_end m = at_end
+
+abbrev pauses_then : ℕ → List Pause → List ClientTold → List Pause
+pauses_then row [] ms = []
+pauses_then row (p ∷ ps) [] = p ∷ ps
+pauses_then row (p ∷ ps) (m ∷ ms) = pause_then row p m ∷ pauses_then row ps ms
+
+-- a test that does not tell whether a wire has room finds them as before
+same_test : (test : Pause → Bool) → test for_room ≡ test for_wire → (row : ℕ) (p : Pause) (m : ClientTold) → test (pause_then row p m) ≡ test p
+same_test test e row for_answer m = refl
+same_test test e row for_wire m = at (nat_le row m.in_a_row)
   where
-    by : (cap : ℕ) → min a cap ≤ b → 0 < cap → 0 < b
-    by cap i j = omega arith
+    at : (b : Bool) → test (cond b for_wire for_room) ≡ test for_wire
+    at true = refl
+    at false = e
+same_test test e row for_room m = refl
+same_test test e row at_end m = refl
 
-paused_on : (d : Exchange) (k : ℕ) (p : Pause) (l m : ClientTold) → ClientGoesOn l m → WasPaused d k p l → WasPaused d k p m
-paused_on d k for_answer l m g h = h
-paused_on d k for_wire l m g h = still_some l.waits m.waits h g.waits
-paused_on d k at_end l m g h = subst (λ (x : ClientTold). IsOver (stage_at x)) (sym (g.rests (inr h))) h
+any_then : (test : Pause → Bool) → test for_room ≡ test for_wire → (row : ℕ) (ps : List Pause) (ms : List ClientTold)
+    → list_any test (pauses_then row ps ms) ≡ list_any test ps
+any_then test e row [] ms = refl
+any_then test e row (p ∷ ps) [] = refl
+any_then test e row (p ∷ ps) (m ∷ ms) = ap₂ (λ a b. a || b) (same_test test e row p m) (any_then test e row ps ms)
 
-all_paused_on : (d : Exchange) (k : ℕ) (ps : List Pause) (ls ms : List ClientTold) → ClientsGoOn ls ms → WerePaused d k ps ls → WerePaused d k ps ms
-all_paused_on d k [] [] [] g h = tt
-all_paused_on d k [] [] (m ∷ ms) g h = absurd g
-all_paused_on d k [] (l ∷ ls) ms g h = absurd h
-all_paused_on d k (p ∷ ps) [] ms g h = absurd h
-all_paused_on d k (p ∷ ps) (l ∷ ls) [] g h = absurd g
-all_paused_on d k (p ∷ ps) (l ∷ ls) (m ∷ ms) g h = (paused_on d k p l m g.0 h.0, all_paused_on d (suc k) ps ls ms g.1 h.1)
+count_then : (test : Pause → Bool) → test for_room ≡ test for_wire → (row : ℕ) (ps : List Pause) (ms : List ClientTold)
+    → count_by test (pauses_then row ps ms) ≡ count_by test ps
+count_then test e row [] ms = refl
+count_then test e row (p ∷ ps) [] = refl
+count_then test e row (p ∷ ps) (m ∷ ms) =
+    count_cons test (pause_then row p m) (pauses_then row ps ms)
+    ∙ ap₂ (λ (b : Bool) (n : ℕ). one_if b + n) (same_test test e row p m) (count_then test e row ps ms) ∙ sym (count_cons test p ps)
+
+-- with any last value of their type
+within_longest : (n a b c cap : ℕ) → min n cap ≤ a → a ≤ b → min b cap ≤ c → min n cap ≤ c
+within_longest n a b c cap h k l = omega arith
+
+paused_on : (d : Exchange) (k : ℕ) (p : Pause) (l m : ClientTold) → ClientGoesOn l m → l.in_a_row ≤ l.longest → WasPaused false d k p l
+    → WasPaused true d k (pause_then (row_of d) p m) m
+paused_on d k for_answer l m g r h = h
+paused_on d k for_wire l m g r h = at (nat_le (row_of d) m.in_a_row) refl
+  where
+    at : (b : Bool) → nat_le (row_of d) m.in_a_row ≡ b → WasPaused true d k (cond b for_wire for_room) m
+    at true e = (λ clash. absurd (true≢false clash), leb-true (row_of d) m.in_a_row e)
+    at false e = (refl, within_longest d.received.waits l.in_a_row l.longest m.longest (2 ^ 64 - 1) h.1 r g.longest)
+paused_on d k for_room l m g r h = absurd (true≢false (sym h.0))
+paused_on d k at_end l m g r h = subst (λ (x : ClientTold). IsOver (stage_at x)) (sym (g.rests (inr h))) h
+
+all_paused_on : (d : Exchange) (k : ℕ) (ps : List Pause) (ls ms : List ClientTold) → ClientsGoOn ls ms → AreWithin ls → WerePaused false d k ps ls
+    → WerePaused true d k (pauses_then (row_of d) ps ms) ms
+all_paused_on d k [] [] [] g r h = tt
+all_paused_on d k [] [] (m ∷ ms) g r h = absurd g
+all_paused_on d k [] (l ∷ ls) ms g r h = absurd h
+all_paused_on d k (p ∷ ps) [] ms g r h = absurd h
+all_paused_on d k (p ∷ ps) (l ∷ ls) [] g r h = absurd g
+all_paused_on d k (p ∷ ps) (l ∷ ls) (m ∷ ms) g r h = (paused_on d k p l m g.0 r.0 h.0, all_paused_on d (suc k) ps ls ms g.1 r.1 h.1)
+
+-- with any last value of their type
+pub since : (n a b cap : ℕ) → min n cap ≤ a → min a cap ≤ b → min n cap ≤ b
+since n a b cap h k = omega arith
 
 -- ---- all of it
 
@@ -89,43 +153,13 @@ module _ (IsMade : WireTold → Type 0) (parts : ProgramParts) (first : Sides) (
   later = record now { doors = doors; connections = links }
 
   pub same_leads : leads_of later ≡ leads_of now
-  same_leads = map_rested lead_of (λ p n. refl) now.doors doors rested
+  same_leads = map_rested lead_of (λ p n m. refl) now.doors doors rested
 
   pub same_services : services_of later ≡ services_of now
-  same_services = map_rested service_of (λ p n. refl) now.doors doors rested
+  same_services = map_rested service_of (λ p n m. refl) now.doors doors rested
 
   pub long : length links ≡ length now.connections
   long = clients-long now.connections links goes
-
-  pub none_later : HadNone now d → HadNone later d
-  none_later n = record {
-    pauses = n.pauses;
-    each = all_paused_on d 0 n.pauses now.connections links goes n.each;
-    over = λ ended. (
-      ap₂ (λ (k : ℕ) (b : Bool). nat_le now.most k || b) long (all_rested (λ (p : ListenerTold). has_ended p.door) (λ p n. refl) now.doors doors rested) ∙ (n.over ended).0,
-      (n.over ended).1,
-    );
-    waited = λ running. elim (n.waited running) [
-      | inl full ↦ inl full
-      | inr waited ↦ inr (since d.received.waits (waits_at now.doors now.connections) (waits_at doors links) waited grown)
-    ];
-    rested = λ running. since d.received.waits (rests_at now.doors) (rests_at doors) (n.rested running) (rests_rested now.doors doors rested);
-  }
-    where
-      since : (n a b : ℕ) → min n (2 ^ 64 - 1) ≤ a → HasNotFallen a b → min n (2 ^ 64 - 1) ≤ b
-      since n a b h k = by (2 ^ 64 - 1) h k
-        where
-          by : (cap : ℕ) → min n cap ≤ a → min a cap ≤ b → min n cap ≤ b
-          by cap i j = omega arith
-
-      grown : HasNotFallen (waits_at now.doors now.connections) (waits_at doors links)
-      grown =
-          sum_not_fallen (sum_by (λ (p : ListenerTold). p.door.waits) now.doors) (sum_by (λ (l : ClientTold). l.waits) now.connections)
-          (sum_by (λ (p : ListenerTold). p.door.waits) doors) (sum_by (λ (l : ClientTold). l.waits) links)
-          (waits_at now.doors now.connections) (waits_at doors links) (2 ^ 64 - 1) refl refl
-          (subst (HasNotFallen (sum_by (λ (p : ListenerTold). p.door.waits) now.doors)) (sym (sum_rested (λ (p : ListenerTold). p.door.waits) (λ p n. refl) now.doors doors rested))
-          (not_fallen (sum_by (λ (p : ListenerTold). p.door.waits) now.doors) (2 ^ 64 - 1)))
-          (waits_on now.connections links goes)
 
   module _ (f : HasExchanged IsMade parts first (sides_of now notes) d) where
     pub serves : Serves IsMade parts (leads_of now) links f.all f.heard
@@ -133,16 +167,35 @@ module _ (IsMade : WireTold → Type 0) (parts : ProgramParts) (first : Sides) (
         (links-on IsMade (leads_of now) now.connections now.connections links (links-same IsMade (leads_of now) now.connections) goes)
         (record { connections = f.connections; are = f.clients; doors = f.at_doors; taken = f.taken; came = f.came; answers = f.answers })
 
+    none_later : HadNone false now d → HadNone true later d
+    none_later n = record {
+      pauses = pauses_then (row_of d) n.pauses links;
+      each = all_paused_on d 0 n.pauses now.connections links goes (are_within IsMade now.connections f.connections f.clients) n.each;
+      over = λ ended. (
+        ap₂ (λ (k : ℕ) (b : Bool). nat_le now.most k || b) long (all_rested (λ (p : ListenerTold). has_ended p.door) (λ p n m. refl) now.doors doors rested) ∙ (n.over ended).0,
+        any_then is_for_wire refl (row_of d) n.pauses links ∙ (n.over ended).1,
+      );
+      rested = since d.received.waits (rests_in_a_row_at now.doors) (rests_in_a_row_at doors) (2 ^ 64 - 1) n.rested (rows_rested now.doors doors rested);
+      quiet = elim n.quiet [
+        | inl full ↦ inl (
+            ap₂ (λ (k : ℕ) (c : ℕ). nat_le now.most k || nat_le most_open c) long (count_then is_unended refl (row_of d) n.pauses links) ∙ full)
+        | inr all ↦ inr (all_rested (is_quiet (row_of d)) (λ p n m. refl) now.doors doors rested ∙ all)
+      ];
+    }
+
+    pub paused_later : PausedSo false now d → PausedSo true later d
+    paused_later before = λ running gave. elim (before running gave) [ inl had ↦ inl (none_later had) | inr many ↦ inr many ]
+
     abbrev pub exchanged_later : HasExchanged IsMade parts first (sides_of later notes) d
     exchanged_later = record {
       services = same_services ∙ f.services;
-      in_place = map_rested place_of (λ p n. refl) now.doors doors rested ∙ f.in_place;
+      in_place = map_rested place_of (λ p n m. refl) now.doors doors rested ∙ f.in_place;
       most = f.most;
       within = ap (list_all (λ n. nat_lt n (length parts.services))) same_services ∙ f.within;
       connections = serves.connections;
       clients = serves.are;
-      came_in = sum_rested wires_of (λ p n. refl) now.doors doors rested ∙ f.came_in ∙ sym long;
-      led = λ n. sum_rested (wires_to n) (λ p k. refl) now.doors doors rested ∙ f.led n ∙ sym (leads_on n now.connections links goes);
+      came_in = sum_rested wires_of (λ p n m. refl) now.doors doors rested ∙ f.came_in ∙ sym long;
+      led = λ n. sum_rested (wires_to n) (λ p k m. refl) now.doors doors rested ∙ f.led n ∙ sym (leads_on n now.connections links goes);
       at_doors = subst (λ ls. list_all (λ (v : RunConnection). list_any (is_led v.door v.service) ls) serves.connections ≡ true) (sym same_leads) serves.doors;
       accepted = subst (λ n. n ≤ now.most) (sym long) f.accepted;
       all = f.all;
@@ -170,5 +223,5 @@ module _ (IsMade : WireTold → Type 0) (parts : ProgramParts) (first : Sides) (
       left = f.left;
       faults = f.faults;
       seen = f.seen;
-      none = λ running gave. elim (f.none running gave) [ inl had ↦ inl (none_later had) | inr many ↦ inr many ];
+      moved = since d.received.moves (rests_at now.doors) (rests_at doors) (2 ^ 64 - 1) f.moved (rests_rested now.doors doors rested);
     }

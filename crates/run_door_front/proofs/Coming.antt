@@ -39,16 +39,20 @@ new_line line f = record {
 }
 
 pub new_link-at : (IsMade : WireTold → Type 0) (line : WireTold) (link : ClientTold) → IsMade line → IsFresh line → link.pending ≡ None
-    → stage_at link ≡ Stages.Reads → IsTalking line link.seen [] [] → IsNewClient IsMade link
-new_link-at IsMade line link made f pending stage talks = record {
+    → link.in_a_row ≡ 0 → stage_at link ≡ Stages.Reads → IsTalking line link.seen [] [] → IsNewClient IsMade link
+new_link-at IsMade line link made f pending row stage talks = record {
   pending = pending;
   unowed = λ e. (let clash : Stages.Reads ≡ Stages.Owes = sym stage ∙ e in cc);
   memory = λ e. (let clash : Stages.Reads ≡ Stages.Spent = sym stage ∙ e in cc);
+  row = within link.in_a_row link.longest row;
   first = line;
   made = made;
   fresh = new_line line f;
   talks = talks;
 }
+  where
+    within : (a b : ℕ) → a ≡ 0 → a ≤ b
+    within a b e = omega arith
 
 -- a connection on which nothing passed tells the door of its wire
 pub door-at : (told : PollTold) (place : ℕ) (link : ClientTold) → ComesAt place told → IsTalking told.wire link.seen [] []
@@ -135,7 +139,7 @@ module _ (IsMade : WireTold → Type 0) (most : ℕ) where
         (list_all-append (λ link. came_by link (lead_of p)) t.more (l ∷ [])
         ∙ and_from (list_all (λ link. came_by link (lead_of p)) t.more) (came_by l (lead_of p) && true) (order_one (lead_of p) t.more t.in_order)
         (and_from (came_by l (lead_of p)) true (came-there p l door to) refl));
-    in_turn = turns-append (p ∷ []) (r ∷ []) t.more (l ∷ []) (turns-on (p ∷ []) (q ∷ []) (r ∷ []) t.more (g, tt) t.in_turn) (inl (came-there p l door to), tt);
+    in_turn = turns-append (p ∷ []) (r ∷ []) t.more (l ∷ []) (turns-on (p ∷ []) (q ∷ []) (r ∷ []) t.more t.goes (g, tt) t.in_turn) (inl (came-there p l door to), tt);
     shut = λ none. absurd (true≢false (sym (and_from (nat_lt (length now) most) (nat_lt (length among) most_open)
         (lt-ltb (length now) most room) (lt-ltb (length among) most_open few))
         ∙ no_room-more most (length links) (length now) (length opened) (length among) longer wider none));
@@ -200,14 +204,14 @@ module _ (IsMade : WireTold → Type 0) (most : ℕ) where
     grown = t.grown;
     fresh = t.fresh;
     in_order = t.in_order;
-    in_turn = turns-on (p ∷ []) (q ∷ []) (r ∷ []) t.more (g, tt) t.in_turn;
+    in_turn = turns-on (p ∷ []) (q ∷ []) (r ∷ []) t.more t.goes (g, tt) t.in_turn;
     shut = t.shut;
     ordered = t.ordered;
     as_many = t.as_many;
     fits = t.fits;
     wires = λ h. sum_one wires_of r ∙ w ∙ sym (sum_one wires_of q) ∙ t.wires h;
     led = λ h n. led-still n p q r t.more g.service w (t.led h n);
-  }) (inr (tried-since p q r t.goes.0 tried))
+  }) (inr (tried-since p q r t.goes.0 g tried))
 
   -- ---- at all doors
 

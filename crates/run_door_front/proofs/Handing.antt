@@ -6,13 +6,14 @@ use Rattle.conn_future.specs.declared.stage.Stage.{Stage}
 use Rattle.conn_future.specs.declared.stage.Stage.TheVariants as Stages
 use Rattle.conn_future.specs.Talking.{IsTalking}
 use Rattle.outside_traits.specs.Told.{WireTold}
+use Rattle.outside_polling.specs.Polls.{PollTold}
 use Rattle.http_connection.specs.Talking.{handed}
 use Rattle.jsonrpc_text.specs.Posted.{posted}
 use Rattle.jsonrpc_text.specs.declared.message.Read.{Read}
 use Rattle.office_core.specs.declared.front.Posting.{Posting}
 use Rattle.run_theorem.specs.Texts.{posting_of}
 use Rattle.jsonrpc_postings.specs.Told.{came_for}
-use Rattle.run_door_front.specs.Keeping.{ClientTold, stage_at, asks, asks_there, is_so}
+use Rattle.run_door_front.specs.Keeping.{ClientTold, told_of_wire, stage_at, asks, asks_there, is_so}
 use Rattle.run_door_front.specs.NextSteps.{IsAsked, Answers, listing, Hands}
 use Rattle.run_door_front.proofs.Lining.{asks_is}
 
@@ -36,9 +37,10 @@ Talks before now body = (first : WireTold) (bodies : List (List ℕ)) (texts : L
 -- a request comes
 pub answers-so : (place : ℕ) (told before now : ClientTold) (x : Option (List ℕ)) (body slice : List ℕ) (read : Read) (p : Posting) → x ≡ Some body
     → slice ≡ body → read ≡ posted slice → p ≡ posting_of (came_for told.service read) → told ≡ before → now.service ≡ told.service
-    → now.pending ≡ Some (record { place = place; read = read }) → stage_at now ≡ Stages.Owes → now.waits ≡ told.waits → Talks told now x
+    → now.pending ≡ Some (record { place = place; read = read }) → stage_at now ≡ Stages.Owes → told_of_wire now ≡ told_of_wire told
+    → Talks told now x
     → Answers place p before now
-answers-so place told before now x body slice read p is piece says posts same service pending stage waits talks =
+answers-so place told before now x body slice read p is piece says posts same service pending stage wire talks =
     let sent : read ≡ posted body = says ∙ ap posted piece in
     subst (λ l. Answers place p l now) same (record {
       body = body;
@@ -47,7 +49,9 @@ answers-so place told before now x body slice read p is piece says posts same se
         service = service;
         pending = pending ∙ ap (λ r. Some (record { place = place; read = r })) sent;
         stage = stage;
-        waits = waits;
+        waits = ap (λ (w : PollTold). w.waits) wire;
+        row = ap (λ (w : PollTold). w.in_a_row) wire;
+        longest = ap (λ (w : PollTold). w.longest) wire;
         talks = subst (Talks told now) is talks;
       };
     })

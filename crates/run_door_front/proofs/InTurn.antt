@@ -5,7 +5,7 @@ use Rattle.std.proofs.lemmas.Bool.{and_parts}
 use Rattle.outside_traits.specs.Told.{WireTold}
 use Rattle.run_door_front.specs.Keeping.{is_led, lead_of, Lead, ListenerTold, ClientTold}
 use Rattle.run_door_front.specs.NextSteps.{came_by, GoesOn, IsTried, AllGoOn, AreTried, CameInTurn, AllInTurn, NewInTurn, ClientsGoOn, AreNewLinks, LinksGoOn}
-use Rattle.run_door_front.proofs.Doors.{tried-since}
+use Rattle.run_door_front.proofs.Doors.{tried-since, nobody-first, nobody-last}
 use Rattle.run_door_front.proofs.Links.{door_on}
 
 -- ---- one door more
@@ -45,35 +45,39 @@ turns-append ps qs (l ∷ ls) ms t u = (t.0, turns-append ps qs ls ms t.1 u)
 still_more : (a b c cap : ℕ) → min (a + 1) cap ≤ b → min b cap ≤ c → min (a + 1) cap ≤ c
 still_more a b c cap h k = omega arith
 
-tried_on : (p q r : ListenerTold) → IsTried p q → GoesOn q r → IsTried p r
-tried_on p q r (inl ended) g = inl (g.ended ended)
-tried_on p q r (inr waited) g = inr (still_more p.door.waits q.door.waits r.door.waits (2 ^ 64 - 1) waited g.waits)
+tried_on : (p q r : ListenerTold) → GoesOn p q → IsTried p q → GoesOn q r → IsTried p r
+tried_on p q r h (inl ended) g = inl (g.ended ended)
+tried_on p q r h (inr waited) g = inr (
+  still_more p.door.waits q.door.waits r.door.waits (2 ^ 64 - 1) waited.0 g.waits,
+  λ n. still_more p.door.waits_in_a_row q.door.waits_in_a_row r.door.waits_in_a_row (2 ^ 64 - 1)
+      (waited.1 (nobody-first p q r h.wires g.wires n)) (g.row (nobody-last p q r h.wires g.wires n)),
+)
 
-turn_on : (ps qs rs : List ListenerTold) (l : ClientTold) → AllGoOn qs rs → CameInTurn ps qs l → CameInTurn ps rs l
-turn_on [] qs rs l g t = absurd t
-turn_on (p ∷ ps) [] rs l g t = absurd t
-turn_on (p ∷ ps) (q ∷ qs) [] l g t = absurd g
-turn_on (p ∷ ps) (q ∷ qs) (r ∷ rs) l g (inl here) = inl here
-turn_on (p ∷ ps) (q ∷ qs) (r ∷ rs) l g (inr there) = inr (tried_on p q r there.0 g.0, turn_on ps qs rs l g.1 there.1)
+turn_on : (ps qs rs : List ListenerTold) (l : ClientTold) → AllGoOn ps qs → AllGoOn qs rs → CameInTurn ps qs l → CameInTurn ps rs l
+turn_on [] qs rs l h g t = absurd t
+turn_on (p ∷ ps) [] rs l h g t = absurd t
+turn_on (p ∷ ps) (q ∷ qs) [] l h g t = absurd g
+turn_on (p ∷ ps) (q ∷ qs) (r ∷ rs) l h g (inl here) = inl here
+turn_on (p ∷ ps) (q ∷ qs) (r ∷ rs) l h g (inr there) = inr (tried_on p q r h.0 there.0 g.0, turn_on ps qs rs l h.1 g.1 there.1)
 
-pub turns-on : (ps qs rs : List ListenerTold) (ls : List ClientTold) → AllGoOn qs rs → AllInTurn ps qs ls → AllInTurn ps rs ls
-turns-on ps qs rs [] g t = tt
-turns-on ps qs rs (l ∷ ls) g t = (turn_on ps qs rs l g t.0, turns-on ps qs rs ls g t.1)
+pub turns-on : (ps qs rs : List ListenerTold) (ls : List ClientTold) → AllGoOn ps qs → AllGoOn qs rs → AllInTurn ps qs ls → AllInTurn ps rs ls
+turns-on ps qs rs [] h g t = tt
+turns-on ps qs rs (l ∷ ls) h g t = (turn_on ps qs rs l h g t.0, turns-on ps qs rs ls h g t.1)
 
 -- a door leads where it led
 lead_same : (p q : ListenerTold) → GoesOn p q → lead_of q ≡ lead_of p
 lead_same p q g = λ i. record { place = g.place i; service = g.service i }
 
-turn_since : (ps qs rs : List ListenerTold) (l : ClientTold) → AllGoOn ps qs → CameInTurn qs rs l → CameInTurn ps rs l
-turn_since ps [] rs l g t = absurd t
-turn_since [] (q ∷ qs) rs l g t = absurd g
-turn_since (p ∷ ps) (q ∷ qs) [] l g t = absurd t
-turn_since (p ∷ ps) (q ∷ qs) (r ∷ rs) l g (inl here) = inl (ap (came_by l) (sym (lead_same p q g.0)) ∙ here)
-turn_since (p ∷ ps) (q ∷ qs) (r ∷ rs) l g (inr there) = inr (tried-since p q r g.0 there.0, turn_since ps qs rs l g.1 there.1)
+turn_since : (ps qs rs : List ListenerTold) (l : ClientTold) → AllGoOn ps qs → AllGoOn qs rs → CameInTurn qs rs l → CameInTurn ps rs l
+turn_since ps [] rs l g h t = absurd t
+turn_since [] (q ∷ qs) rs l g h t = absurd g
+turn_since (p ∷ ps) (q ∷ qs) [] l g h t = absurd t
+turn_since (p ∷ ps) (q ∷ qs) (r ∷ rs) l g h (inl here) = inl (ap (came_by l) (sym (lead_same p q g.0)) ∙ here)
+turn_since (p ∷ ps) (q ∷ qs) (r ∷ rs) l g h (inr there) = inr (tried-since p q r g.0 h.0 there.0, turn_since ps qs rs l g.1 h.1 there.1)
 
-pub turns-since : (ps qs rs : List ListenerTold) (ls : List ClientTold) → AllGoOn ps qs → AllInTurn qs rs ls → AllInTurn ps rs ls
-turns-since ps qs rs [] g t = tt
-turns-since ps qs rs (l ∷ ls) g t = (turn_since ps qs rs l g t.0, turns-since ps qs rs ls g t.1)
+pub turns-since : (ps qs rs : List ListenerTold) (ls : List ClientTold) → AllGoOn ps qs → AllGoOn qs rs → AllInTurn qs rs ls → AllInTurn ps rs ls
+turns-since ps qs rs [] g h t = tt
+turns-since ps qs rs (l ∷ ls) g h t = (turn_since ps qs rs l g h t.0, turns-since ps qs rs ls g h t.1)
 
 -- ---- those that came
 
@@ -81,10 +85,10 @@ pub news-same : (ps : List ListenerTold) (ls : List ClientTold) → NewInTurn ps
 news-same ps [] = tt
 news-same ps (l ∷ ls) = news-same ps ls
 
-pub news-doors : (ps qs rs : List ListenerTold) (ls ms : List ClientTold) → AllGoOn qs rs → NewInTurn ps qs ls ms → NewInTurn ps rs ls ms
-news-doors ps qs rs [] ms g t = turns-on ps qs rs ms g t
-news-doors ps qs rs (l ∷ ls) [] g t = absurd t
-news-doors ps qs rs (l ∷ ls) (m ∷ ms) g t = news-doors ps qs rs ls ms g t
+pub news-doors : (ps qs rs : List ListenerTold) (ls ms : List ClientTold) → AllGoOn ps qs → AllGoOn qs rs → NewInTurn ps qs ls ms → NewInTurn ps rs ls ms
+news-doors ps qs rs [] ms h g t = turns-on ps qs rs ms h g t
+news-doors ps qs rs (l ∷ ls) [] h g t = absurd t
+news-doors ps qs rs (l ∷ ls) (m ∷ ms) h g t = news-doors ps qs rs ls ms h g t
 
 pub news-more : (ps qs : List ListenerTold) (ls ms more : List ClientTold) → NewInTurn ps qs ls ms → AllInTurn ps qs more → NewInTurn ps qs ls (ms ++ more)
 news-more ps qs [] ms more t u = turns-append ps qs ms more t u

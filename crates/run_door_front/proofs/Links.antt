@@ -75,6 +75,8 @@ client-same l = record {
   unowed = λ e. e;
   memory = λ e. e;
   waits = not_fallen l.waits (2 ^ 64 - 1);
+  longest = not_fallen l.longest (2 ^ 64 - 1);
+  row = λ h. h;
   talks = λ first bodies texts t. t;
 }
 
@@ -86,6 +88,8 @@ client-further l m n g h = record {
   unowed = λ e. g.unowed (h.unowed e);
   memory = λ e. g.memory (h.memory e);
   waits = fallen_further l.waits m.waits n.waits (2 ^ 64 - 1) g.waits h.waits;
+  longest = fallen_further l.longest m.longest n.longest (2 ^ 64 - 1) g.longest h.longest;
+  row = λ e. h.row (g.row e);
   talks = λ first bodies texts t. h.talks first bodies texts (g.talks first bodies texts t);
 }
 
@@ -152,6 +156,7 @@ module _ (IsMade : WireTold → Type 0) (leads : List Lead) where
     pending = g.pending ∙ h.pending;
     unowed = λ e. h.unowed (g.unowed e);
     memory = λ e. h.memory (g.memory e);
+    row = g.row h.row;
     first = h.first;
     made = h.made;
     fresh = h.fresh;

@@ -1,19 +1,22 @@
 -- What a look comes to.
-use Rattle.std.proofs.Common.{◌≡◌, refl, sym, ap, ap₂, ◌∙◌, subst, arith, ℕ, zero, suc, ◌+◌, ◌*◌, ◌-◌, ◌^◌, ◌<◌, ◌≤◌, min, Bool, true, false, ◌&&◌, ◌||◌, ◌⊎◌, inl, inr, List, [], ◌∷◌, length, map, nat_le, nat_lt, nat_eq, count_by, slice_set, length-append}
+use Rattle.std.proofs.Common.{◌≡◌, refl, sym, ap, ap₂, ◌∙◌, subst, arith, ℕ, zero, suc, ◌+◌, ◌*◌, ◌-◌, ◌^◌, ◌<◌, ◌≤◌, min, Bool, true, false, ◌&&◌, ◌||◌, ◌⊎◌, inl, inr, List, [], ◌∷◌, ◌++◌, length, map, nat_le, nat_lt, nat_eq, count_by, slice_set, length-append, append-nil}
 use Rattle.std.proofs.lemmas.Bool.{and_parts, ltb-true, ltb-false, true≢false}
 use Rattle.std.specs.List.{list_all, sum_by}
 use Rattle.conn_future.specs.declared.stage.Stage.TheVariants as Stages
+use Rattle.conn_future.specs.Stages.{IsOver, IsUnanswered}
+use Rattle.outside_doors.specs.Counts.{added}
 use Rattle.outside_traits.specs.Told.{WireTold}
 use Rattle.office_core.specs.declared.front.Posting.{Posting}
 use Rattle.run_theorem.specs.declared.front.Next.{Next}
 use Rattle.run_theorem.specs.declared.front.Next.TheVariants as nexts
 use Rattle.run_theorem.specs.Calls.{most_postings}
-use Rattle.run_door_front.specs.Keeping.{lead_of, Lead, ListenerTold, ClientTold, stage_at, is_open, asks_at, asks, owes, is_so, asks_there, owes_there, rests_at, wires_to, leads_to, closed_off, IsOrdered}
-use Rattle.run_door_front.specs.NextSteps.{wires_of, all_owing, has_room, after_rest, AreNewLinks, NewInTurn, ClientsGoOn, LinksGoOn, AreTried, doorway, Accepts, lined, IsQueue, IsPaused, IsPausedAt, queued, PollsAll, Listing, listing, Hands, Going, going, Goes, HasPaused, HavePaused, Posts, Looks}
+use Rattle.run_door_front.specs.Keeping.{lead_of, Lead, ListenerTold, ClientTold, stage_at, is_open, asks_at, asks, owes, is_so, asks_there, owes_there, rests_at, rests_in_a_row_at, wires_to, leads_to, closed_off, IsOrdered}
+use Rattle.run_door_front.specs.NextSteps.{wires_of, all_owing, has_room, after_rest, AreNewLinks, NewInTurn, ClientsGoOn, LinksGoOn, AreTried, doorway, Accepts, lined, IsQueue, IsPaused, IsPausedAt, queued, PollsAll, Listing, listing, Hands, Going, going, Goes, HasPaused, HavePaused, Posts, AreTriedInARow, HasPausedInARow, HavePausedInARow, IsStill, Stays, Looks}
+use Rattle.run_door_front.specs.Moving.{has_moved, any_moved, HaveWaited}
 use Rattle.run_door_front.proofs.Entries.{one_if, count_cons}
 use Rattle.run_door_front.proofs.Leading.{led-more}
-use Rattle.run_door_front.proofs.Doors.{leads-same, all-same, all-further, all_tried-since, rests-on, one_more}
-use Rattle.run_door_front.proofs.Resting.{is_done, all-rested, tried-rested, sums-rested, done-rested, rests-rested}
+use Rattle.run_door_front.proofs.Doors.{leads-same, all-same, all-further, all_tried-since, rests-on, one_more, all-nobody, rows-on, tried-in_a_row}
+use Rattle.run_door_front.proofs.Resting.{is_done, all-rested, tried-rested, sums-rested, done-rested, rests-rested, rows-rested}
 use Rattle.run_door_front.proofs.Links.{links-same, links-more, links-on, clients-long}
 use Rattle.run_door_front.proofs.InTurn.{turns-since, news-same, news-doors, news-more, news-on}
 use Rattle.run_door_front.proofs.Lining.{unasked, open_long, opened_owing, first_asks, none_asks, ordered-taken}
@@ -44,6 +47,27 @@ has_paused waits m (inl (inl asking)) e = absurd (true≢false (sym (asks_so ask
     asks_so is = ap asks_at is
 has_paused waits m (inl (inr owing)) e = inl owing
 has_paused waits m (inr more) e = inr more
+
+-- the same in a row of each, where nothing moved
+paused_in_a_row : (ls ms : List ClientTold) → HaveWaited ls ms → any_moved ls ms ≡ false → ((k : ℕ) → asks_there ms k ≡ false) → HavePausedInARow ls ms
+paused_in_a_row [] [] w e none = tt
+paused_in_a_row [] (m ∷ ms) w e none = absurd w
+paused_in_a_row (l ∷ ls) [] w e none = absurd w
+paused_in_a_row (l ∷ ls) (m ∷ ms) w e none =
+    let both = neither (has_moved l m) (any_moved ls ms) e in
+    (one (w.0 both.0) (none 0), paused_in_a_row ls ms w.1 both.1 (λ k. none (suc k)))
+  where
+    neither : (a b : Bool) → a || b ≡ false → (a ≡ false) × (b ≡ false)
+    neither true b e = absurd (true≢false e)
+    neither false b e = (refl, e)
+
+    asks_so : stage_at m ≡ Stages.Asks → asks m ≡ true
+    asks_so is = ap asks_at is
+
+    one : IsUnanswered (stage_at m) ⊎ (IsOver (stage_at m) ⊎ (added l.in_a_row 1 ≤ m.in_a_row)) → asks m ≡ false → HasPausedInARow l m
+    one (inl (inl asking)) h = absurd (true≢false (sym (asks_so asking) ∙ h))
+    one (inl (inr owing)) h = inl owing
+    one (inr more) h = inr more
 
 none_fallen : (a cap : ℕ) → min 0 cap ≤ a
 none_fallen a cap = omega arith
@@ -121,8 +145,8 @@ module _ (IsMade : WireTold → Type 0) (most : ℕ) where
         (subst (λ ss. AreNewLinks IsMade ss a.takes.more) (leads-same x.doors y.doors g.doors) a.takes.fresh));
     in_turn = subst (NewInTurn x.doors doors x.connections) (sym a.takes.grown)
         (news-more x.doors doors x.connections y.connections a.takes.more
-        (news-doors x.doors y.doors doors x.connections y.connections a.takes.goes g.in_turn)
-        (turns-since x.doors y.doors doors a.takes.more g.doors a.takes.in_turn));
+        (news-doors x.doors y.doors doors x.connections y.connections g.doors a.takes.goes g.in_turn)
+        (turns-since x.doors y.doors doors a.takes.more g.doors a.takes.goes a.takes.in_turn));
     traffics = g.traffics;
     line = g.line;
     ordered = λ o. a.takes.ordered y.queue (g.ordered o);
@@ -162,7 +186,7 @@ module _ (IsMade : WireTold → Type 0) (most : ℕ) where
   goes-rests x doors links opened queue traffics g = record {
     doors = all-further x.doors doors (after_rest doors) g.doors (all-rested doors);
     connections = g.connections;
-    in_turn = news-doors x.doors doors (after_rest doors) x.connections links (all-rested doors) g.in_turn;
+    in_turn = news-doors x.doors doors (after_rest doors) x.connections links g.doors (all-rested doors) g.in_turn;
     traffics = g.traffics;
     line = g.line;
     ordered = g.ordered;
@@ -234,11 +258,24 @@ module _ (IsMade : WireTold → Type 0) (most : ℕ) where
       tried = elim a.tried [
         | inl full ↦ inl (
             ap₂ (λ m n. has_room most m n) (clients-long links now p.goes) (sym (open_long 0 now) ∙ sym (ap length p.ordered.in_order) ∙ unended) ∙ full)
-        | inr all ↦ inr (tried-rested x.doors doors (all_tried-since x.doors y.doors doors g.doors all))
+        | inr all ↦ inr (tried-rested x.doors doors (all_tried-since x.doors y.doors doors g.doors a.takes.goes all))
       ]
 
+      none_more : length a.takes.more ≡ 0
+      none_more = let grown = ap length a.takes.grown ∙ length-append y.connections a.takes.more in omega (arith, grown, few)
+
+      no_more : (a b : ℕ) → a ≡ b → a ≤ b
+      no_more a b e = omega arith
+
+      -- as many wires as connections
+      wires_then : sum_by wires_of y.doors ≡ length y.connections → sum_by wires_of doors ≡ sum_by wires_of y.doors
+      wires_then h = let added = a.takes.wires (no_more _ _ h) in let nobody = none_more in omega (arith, added, nobody)
+
+      wires_now : sum_by wires_of y.doors ≡ length y.connections → sum_by wires_of doors ≡ length now
+      wires_now h = wires_then h ∙ h ∙ sym (clients-long links now p.goes ∙ nobody-came few)
+
       -- there is a door
-      some_door : sum_by wires_of x.doors ≡ length x.connections → 0 < length doors
+      some_door : sum_by wires_of y.doors ≡ length y.connections → 0 < length doors
       some_door h = by_doors doors refl
         where
           no_links : (ls : List ClientTold) → 0 ≡ length ls → all_owing ls ≡ true
@@ -253,25 +290,77 @@ module _ (IsMade : WireTold → Type 0) (most : ℕ) where
           by_doors [] e = absurd (true≢false (sym both ∙ more))
             where
               wires : 0 ≡ length now
-              wires = ap (sum_by wires_of) (sym e) ∙ turned.wires h
+              wires = ap (sum_by wires_of) (sym e) ∙ wires_now h
 
               both : closed_off most doors now && all_owing now ≡ true
               both = ap₂ (λ a b. a && b) (ap (λ ps. nat_le most (length now) || list_all is_done ps) e ∙ or_true (nat_le most (length now))) (no_links now wires)
           by_doors (q ∷ qs) e = subst (λ (ps : List ListenerTold). 0 < length ps) (sym e) (omega arith)
 
-      pub looks-yet : (later : List ListenerTold) → later ≡ after_rest doors → Looks IsMade most nexts.NotYet x (going later now opened queue y.traffics)
-      looks-yet later is = subst (λ ps. Looks IsMade most nexts.NotYet x (going ps now opened queue y.traffics)) (sym is) (
-        record {
+      pub looks-stay : (later : List ListenerTold) → later ≡ after_rest doors → Stays IsMade most x (going later now opened queue y.traffics)
+      looks-stay later is = subst (λ ps. Stays IsMade most x (going ps now opened queue y.traffics)) (sym is) (record {
+        rests = record {
           goes = goes-rests x doors now opened queue y.traffics turned;
           none = none;
           paused = paused;
           tried = tried;
           some = ap (λ b. (nat_le most (length now) || b) && all_owing now) (done-rested doors) ∙ more;
-        },
-        record { mid = doors; rested = refl; goes = turned.doors },
-        λ h. one_more (rests_at x.doors) (rests_at doors) (rests_at (after_rest doors)) (2 ^ 64 - 1) (rests-on x.doors doors turned.doors)
-            (rests-rested doors (some_door h)),
-      )
+        };
+        rested = record { mid = doors; rested = refl; goes = turned.doors };
+        more = λ h. one_more (rests_at x.doors) (rests_at doors) (rests_at (after_rest doors)) (2 ^ 64 - 1) (rests-on x.doors doors turned.doors)
+            (rests-rested doors (some_door (g.wires h)));
+      })
+
+      -- nobody came
+      pub same_links : links ≡ y.connections
+      same_links = by_more a.takes.more a.takes.grown none_more
+        where
+          by_more : (more : List ClientTold) → links ≡ y.connections ++ more → length more ≡ 0 → links ≡ y.connections
+          by_more [] e n = e ∙ append-nil y.connections
+          by_more (m ∷ more) e n = absurd (omega (arith, n))
+
+      -- nothing moved
+      module _ (moved : Bool) (is_moved : moved ≡ any_moved links now) (unmoved : moved ≡ false) (waited : HaveWaited links now)
+          (o : IsOrdered x.connections x.opened x.queue) (small : length now < 2 ^ 64 - 1) where
+        small_then : (a b n cap : ℕ) → a ≡ b → n ≡ b → n < cap → a < cap
+        small_then a b n cap e f h = omega arith
+
+        few_wires : sum_by wires_of y.doors ≡ length y.connections → sum_by wires_of y.doors < 2 ^ 64 - 1
+        few_wires h =
+            small_then (sum_by wires_of y.doors) (length y.connections) (length now) (2 ^ 64 - 1) h (clients-long links now p.goes ∙ nobody-came few) small
+
+        rested_wires : sum_by wires_of y.doors ≡ length y.connections → sum_by wires_of (after_rest doors) ≡ sum_by wires_of y.doors
+        rested_wires h = sums-rested wires_of (λ p. refl) doors ∙ wires_then h
+
+        as_wide : length among ≡ length y.opened
+        as_wide = let wide = a.takes.as_many in let nobody = none_more in omega (arith, wide, nobody)
+
+        full_or_tried : sum_by wires_of y.doors ≡ length y.connections → (has_room most (length now) (count_by is_open now) ≡ false) ⊎ AreTriedInARow y.doors (after_rest doors)
+        full_or_tried h = elim a.tried [
+          | inl full ↦ inl (
+              ap₂ (λ m n. has_room most m n) (clients-long links now p.goes) (sym (open_long 0 now) ∙ sym (ap length p.ordered.in_order) ∙ unended) ∙ full)
+          | inr all ↦ inr (tried-in_a_row y.doors (after_rest doors)
+              (all-nobody y.doors (after_rest doors) (all-further y.doors doors (after_rest doors) a.takes.goes (all-rested doors)) (rested_wires h) (few_wires h))
+              (tried-rested y.doors doors all))
+        ]
+
+        still_then : IsStill most y (going (after_rest doors) now opened queue y.traffics)
+        still_then = record {
+          as_many = clients-long links now p.goes ∙ nobody-came few;
+          as_open = sym (open_long 0 now) ∙ sym (ap length p.ordered.in_order) ∙ unended ∙ as_wide ∙ ap length (g.ordered o).in_order ∙ open_long 0 y.connections;
+          unmoved = ap (λ ls. any_moved ls now) (sym same_links) ∙ sym is_moved ∙ unmoved;
+          paused = subst (λ ls. HavePausedInARow ls now) same_links
+              (paused_in_a_row links now waited (sym is_moved ∙ unmoved) (none_asks now queue none p.ordered.queued));
+          tried = full_or_tried;
+          rests = λ h. one_more (rests_in_a_row_at y.doors) (rests_in_a_row_at doors) (rests_in_a_row_at (after_rest doors)) (2 ^ 64 - 1)
+              (rows-on y.doors doors a.takes.goes (all-nobody y.doors doors a.takes.goes (wires_then h) (few_wires h))) (rows-rested doors (some_door h));
+        }
+
+        pub looks-still : y ≡ x → (later : List ListenerTold) → later ≡ after_rest doors → Looks IsMade most nexts.NotYet x (going later now opened queue y.traffics)
+        looks-still same later is = (
+          looks-stay later is,
+          subst (λ ps. IsStill most x (going ps now opened queue y.traffics)) (sym is)
+              (subst (λ (v : Going). IsStill most v (going (after_rest doors) now opened queue y.traffics)) same still_then),
+        )
 
     -- ---- less is left
 
@@ -286,16 +375,6 @@ module _ (IsMade : WireTold → Type 0) (most : ℕ) where
           | inl none ↦ elim h [ inl here ↦ omega (arith, grown, wider, fewer, long, none, here) | inr ended ↦ omega (arith, grown, wider, fewer, long, none, ended) ]
           | inr fit ↦ elim h [ inl here ↦ omega (arith, grown, wider, fewer, long, fit, here) | inr ended ↦ omega (arith, grown, wider, fewer, long, fit, ended) ]
         ]
-
-    -- nobody came and none ended
-    pub left-same : length links ≤ length y.connections → length among ≤ length opened → left most (going doors now opened queue y.traffics) ≡ left most y
-    left-same few many =
-        let nobody = nobody-came few in
-        let unended = none-ended many in
-        let grown = ap length a.takes.grown ∙ length-append y.connections a.takes.more in
-        let wider = a.takes.as_many in
-        let long = clients-long links now p.goes in
-        omega (arith, grown, wider, long, nobody, unended)
 
   -- ---- the order stays
 
@@ -312,6 +391,7 @@ module _ (IsMade : WireTold → Type 0) (most : ℕ) where
   pub looks-ordered : (which : Next) (x now : Going) → Looks IsMade most which x now → IsOrdered x.connections x.opened x.queue
       → IsOrdered now.connections now.opened now.queue
   looks-ordered (nexts.Posting posting) x now l o = posts-ordered posting x now l o
-  looks-ordered nexts.NotYet x now l o = l.0.goes.ordered o
+  looks-ordered nexts.Moved x now l o = l.rests.goes.ordered o
+  looks-ordered nexts.NotYet x now l o = l.0.rests.goes.ordered o
   looks-ordered nexts.End x now (inl many) o = subst (λ (y : Going). IsOrdered y.connections y.opened y.queue) (sym many.1) o
   looks-ordered nexts.End x now (inr ended) o = ended.goes.ordered o

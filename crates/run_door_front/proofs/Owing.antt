@@ -16,7 +16,8 @@ use Rattle.jsonrpc_postings.specs.Told.{came_for, response_told}
 use Rattle.conn_future.specs.declared.stage.Stage.{Stage}
 use Rattle.conn_future.specs.declared.stage.Stage.TheVariants as Stages
 use Rattle.run_door_front.specs.declared.link.PendingReply.{PendingReply}
-use Rattle.run_door_front.specs.Keeping.{ClientTold, Keeping, stage_at, owes_at}
+use Rattle.outside_polling.specs.Polls.{PollTold}
+use Rattle.run_door_front.specs.Keeping.{ClientTold, told_of_wire, Keeping, stage_at, owes_at}
 use Rattle.run_door_front.specs.Exchanged.{Sides, sides_of, OwesAt, HasExchanged}
 use Rattle.run_door_front.specs.AnswerSteps.{is_pending, owes, awaited_at, awaited_by, awaited, Awaits, told_of, IsTextOf, TellsText, HasTold}
 use Rattle.run_door_front.proofs.Changing.{slice_get-mapped}
@@ -64,14 +65,17 @@ text_is (Err e) parts place outcomes link pending is owing sent = tt
 
 -- it is told that text
 pub client_told : (parts : ProgramParts) (t : Told) (text : Option (List ℕ)) (before now : ClientTold) → IsTextOf parts t before text
-    → TellsText text before.seen now.seen → now.pending ≡ None → now.service ≡ before.service → now.waits ≡ before.waits → HasTold parts t before now
-client_told parts t text before now of_place tells paid service waits = record {
+    → TellsText text before.seen now.seen → now.pending ≡ None → now.service ≡ before.service
+    → told_of_wire now ≡ told_of_wire before → HasTold parts t before now
+client_told parts t text before now of_place tells paid service wire = record {
   text = text;
   of_place = of_place;
   tells = tells;
   paid = paid;
   service = service;
-  waits = waits;
+  waits = ap (λ (w : PollTold). w.waits) wire;
+  row = ap (λ (w : PollTold). w.in_a_row) wire;
+  longest = ap (λ (w : PollTold). w.longest) wire;
 }
 
 -- ---- which connection that is

@@ -13,7 +13,7 @@ use Rattle.conn_future.specs.Stages.{IsOver, IsUnanswered, IsMoving, IsAtRest}
 use Rattle.conn_future.specs.Talking.{TalksOn}
 use Rattle.run_door_front.specs.Keeping.{ClientTold, told_of_wire, stage_at, is_open, asks, asks_there, is_so, open_from, most_open, IsOrdered}
 use Rattle.run_door_front.specs.NextSteps.{IsPaused, IsPolled, newly, Lined, lined, IsPolledAt, ClientsGoOn, LinesUp, IsQueue, IsPausedAt, Polls, queued, PollsAll, HasNotFallen}
-use Rattle.run_door_front.specs.Rounds.{has_moved}
+use Rattle.run_door_front.specs.Moving.{has_moved, HasWaited}
 use Rattle.run_door_front.proofs.Entries.{nat_eq_same, nat_eq_is, get_set_same, get_set_other}
 use Rattle.run_door_front.proofs.Doors.{not_fallen-same, not_fallen-added}
 use Rattle.run_door_front.proofs.Links.{clients-same, clients-further, clients-set, clients-at, clients-long}
@@ -35,12 +35,17 @@ pending_waits : (before now : ℕ) (stage : Stage) → ((now ≡ once_more befor
 pending_waits before now stage (inl waited) = not_fallen-added before now waited.0
 pending_waits before now stage (inr asked) = not_fallen-same before now asked.0
 
+-- with any last value of their type
+grown : (a b cap : ℕ) → a ≤ b → min a cap ≤ b
+grown a b cap h = omega arith
+
 -- a connection of which a poll said so
 pub client_polled : (told before now : ClientTold) → told ≡ before → now.service ≡ told.service → now.pending ≡ told.pending
     → (IsAtRest (stage_at told) → (now.seen.kept ≡ told.seen.kept) × (told_of_wire now ≡ told_of_wire told))
     → (stage_at now ≡ Stages.Owes → stage_at told ≡ Stages.Owes) → TalksOn told.seen now.seen
+    → told.longest ≤ now.longest → (told.in_a_row ≤ told.longest → now.in_a_row ≤ now.longest)
     → HasNotFallen told.waits now.waits → (stage_at now ≢ Stages.Spent) → IsPaused told.waits now → IsPolled before now
-client_polled told before now same service pending rests unowed talks waits memory paused = subst (λ l. IsPolled l now) same (record {
+client_polled told before now same service pending rests unowed talks longest row waits memory paused = subst (λ l. IsPolled l now) same (record {
   goes = record {
     service = service;
     pending = pending;
@@ -49,11 +54,15 @@ client_polled told before now same service pending rests unowed talks waits memo
           service = service i;
           seen = record { kept = all.0 i; line = (all.1 i).wire };
           waits = (all.1 i).waits;
+          in_a_row = (all.1 i).in_a_row;
+          longest = (all.1 i).longest;
           pending = pending i;
         });
     unowed = unowed;
     memory = λ e. absurd (memory e);
     waits = waits;
+    longest = grown told.longest now.longest (2 ^ 64 - 1) longest;
+    row = row;
     talks = talks;
   };
   paused = paused;
@@ -81,18 +90,20 @@ pending_unspent before now stage (inr asked) = unanswered_unspent stage asked.1
 pub polled-pending : (told before now : ClientTold) → told ≡ before → now.service ≡ told.service → now.pending ≡ told.pending
     → (IsAtRest (stage_at told) → (now.seen.kept ≡ told.seen.kept) × (told_of_wire now ≡ told_of_wire told))
     → (stage_at now ≡ Stages.Owes → stage_at told ≡ Stages.Owes) → TalksOn told.seen now.seen
+    → told.longest ≤ now.longest → (told.in_a_row ≤ told.longest → now.in_a_row ≤ now.longest)
     → ((now.waits ≡ once_more told.waits) × IsMoving (stage_at now)) ⊎ ((now.waits ≡ told.waits) × IsUnanswered (stage_at now)) → IsPolled before now
-polled-pending told before now same service pending rests unowed talks ends =
-    client_polled told before now same service pending rests unowed talks (pending_waits told.waits now.waits (stage_at now) ends)
+polled-pending told before now same service pending rests unowed talks longest row ends =
+    client_polled told before now same service pending rests unowed talks longest row (pending_waits told.waits now.waits (stage_at now) ends)
     (pending_unspent told.waits now.waits (stage_at now) ends) (paused_pending told.waits now ends)
 
 -- or over
 pub polled-over : (told before now : ClientTold) → told ≡ before → now.service ≡ told.service → now.pending ≡ told.pending
     → (IsAtRest (stage_at told) → (now.seen.kept ≡ told.seen.kept) × (told_of_wire now ≡ told_of_wire told))
     → (stage_at now ≡ Stages.Owes → stage_at told ≡ Stages.Owes) → TalksOn told.seen now.seen
+    → told.longest ≤ now.longest → (told.in_a_row ≤ told.longest → now.in_a_row ≤ now.longest)
     → (now.waits ≡ told.waits) × IsOver (stage_at now) → IsPolled before now
-polled-over told before now same service pending rests unowed talks ends =
-    client_polled told before now same service pending rests unowed talks (not_fallen-same told.waits now.waits ends.0)
+polled-over told before now same service pending rests unowed talks longest row ends =
+    client_polled told before now same service pending rests unowed talks longest row (not_fallen-same told.waits now.waits ends.0)
     (over_unspent (stage_at now) ends.1) (inr (inl ends.1))
 
 -- waits that did not fall from less
@@ -293,18 +304,19 @@ polls-all test ls ms opened later queue line is kept o p = record {
 -- ---- the connection of a number
 
 pub polled-at : (links : List ClientTold) (queue line : List ℕ) (n : ℕ) (l later : ClientTold) (moved : Bool) → n < length links → l ≡ get_or links n l
-    → IsPolled l later → line ≡ queue ++ newly n l later → moved ≡ has_moved l later
-    → (at : IsPolledAt n (lined links queue) (lined (slice_set links n later) line)) × (moved ≡ has_moved at.link at.later)
-polled-at links queue line n l later moved inside value p grown is = (
+    → IsPolled l later → line ≡ queue ++ newly n l later → moved ≡ has_moved l later → HasWaited l later
+    → (at : IsPolledAt n (lined links queue) (lined (slice_set links n later) line)) × (moved ≡ has_moved at.link at.later) × HasWaited at.link at.later
+polled-at links queue line n l later moved inside value p more is waited = (
   record {
     link = l;
     later = later;
     there = slice_get_read links (length links) n l refl inside value;
     set = refl;
     polled = p;
-    line = grown;
+    line = more;
   },
   is,
+  waited,
 )
 
 -- it came to ask or not

@@ -193,6 +193,7 @@ module _ (IsMade : WireTold → Type 0) where
     stage = refl;
     memory = g.memory;
     owes = subst (λ o. OwesAt o (stage_at m)) (sym g.pending) g.unowed;
+    row = g.row;
     first = g.first;
     made = g.made;
     fresh = g.fresh;
@@ -212,6 +213,7 @@ module _ (IsMade : WireTold → Type 0) where
     stage = refl;
     memory = λ e. h.memory (h.stage ∙ g.memory e);
     owes = subst (λ o. OwesAt o (stage_at m)) (sym g.pending) (owes_on l.pending l m g (subst (OwesAt l.pending) h.stage h.owes));
+    row = g.row h.row;
     first = h.first;
     made = h.made;
     fresh = h.fresh;

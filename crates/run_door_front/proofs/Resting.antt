@@ -5,7 +5,7 @@ use Rattle.std.proofs.lemmas.Bool.{and_parts, and_from, true≢false}
 use Rattle.std.proofs.lemmas.List.{take_all}
 use Rattle.std.proofs.lemmas.List.Sums.{sum_by-cons}
 use Rattle.outside_doors.specs.Counts.{added, has_ended}
-use Rattle.run_door_front.specs.Keeping.{ListenerTold, rests_at}
+use Rattle.run_door_front.specs.Keeping.{ListenerTold, rests_at, rests_in_a_row_at}
 use Rattle.run_door_front.specs.NextSteps.{GoesOn, AllGoOn, AreTried, rested_at, rested_first, rested_open, after_rest}
 use Rattle.run_door_front.proofs.Doors.{not_fallen-same, not_fallen-added, goes-same, all-same}
 
@@ -21,8 +21,11 @@ goes_rested p = record {
   place = refl;
   ended = λ e. e;
   untried = λ e. refl;
+  wires = not_fallen-same p.door.wires p.door.wires refl;
   waits = not_fallen-same p.door.waits p.door.waits refl;
   rests = not_fallen-added p.door.rests (added p.door.rests 1) refl;
+  row = λ _. not_fallen-same p.door.waits_in_a_row p.door.waits_in_a_row refl;
+  rests_row = λ _. not_fallen-added p.door.rests_in_a_row (added p.door.rests_in_a_row 1) refl;
 }
 
 all_rested_open : (ps : List ListenerTold) → AllGoOn ps (rested_open ps)
@@ -72,19 +75,19 @@ more_here : (r s t m n cap : ℕ) → m ≡ r + s → n ≡ t + s → t ≡ min 
 more_here r s t m n cap a b e = omega arith
 
 -- once more, where one has not ended
-rests_rested_open : (ps : List ListenerTold) → list_all is_done ps ≡ false → added (rests_at ps) 1 ≤ rests_at (rested_open ps)
-rests_rested_open [] some = absurd (true≢false some)
-rests_rested_open (p ∷ ps) some = at (has_ended p.door) refl (λ rest. rests_rested_open ps rest)
+more_open : (f : ListenerTold → ℕ) → ((p : ListenerTold) → f (rested_at p) ≡ added (f p) 1) → (ps : List ListenerTold) → list_all is_done ps ≡ false
+    → added (sum_by f ps) 1 ≤ sum_by f (rested_open ps)
+more_open f more [] some = absurd (true≢false some)
+more_open f more (p ∷ ps) some = at (has_ended p.door) refl (λ rest. more_open f more ps rest)
   where
-    at : (b : Bool) → has_ended p.door ≡ b → (list_all is_done ps ≡ false → added (rests_at ps) 1 ≤ rests_at (rested_open ps))
-        → added (rests_at (p ∷ ps)) 1 ≤ rests_at (cond b (p ∷ rested_open ps) (rested_at p ∷ ps))
+    at : (b : Bool) → has_ended p.door ≡ b → (list_all is_done ps ≡ false → added (sum_by f ps) 1 ≤ sum_by f (rested_open ps))
+        → added (sum_by f (p ∷ ps)) 1 ≤ sum_by f (cond b (p ∷ rested_open ps) (rested_at p ∷ ps))
     at true is rest =
-        more_behind p.door.rests (rests_at ps) (rests_at (rested_open ps)) (rests_at (p ∷ ps)) (rests_at (p ∷ rested_open ps)) (2 ^ 64 - 1)
-        (sum_by-cons (λ (p : ListenerTold). p.door.rests) p ps) (sum_by-cons (λ (p : ListenerTold). p.door.rests) p (rested_open ps))
-        (rest (ap (λ b. b && list_all is_done ps) (sym is) ∙ some))
+        more_behind (f p) (sum_by f ps) (sum_by f (rested_open ps)) (sum_by f (p ∷ ps)) (sum_by f (p ∷ rested_open ps)) (2 ^ 64 - 1)
+        (sum_by-cons f p ps) (sum_by-cons f p (rested_open ps)) (rest (ap (λ b. b && list_all is_done ps) (sym is) ∙ some))
     at false is rest =
-        more_here p.door.rests (rests_at ps) (added p.door.rests 1) (rests_at (p ∷ ps)) (rests_at (rested_at p ∷ ps)) (2 ^ 64 - 1)
-        (sum_by-cons (λ (p : ListenerTold). p.door.rests) p ps) (sum_by-cons (λ (p : ListenerTold). p.door.rests) (rested_at p) ps) refl
+        more_here (f p) (sum_by f ps) (f (rested_at p)) (sum_by f (p ∷ ps)) (sum_by f (rested_at p ∷ ps)) (2 ^ 64 - 1)
+        (sum_by-cons f p ps) (sum_by-cons f (rested_at p) ps) (more p)
 
 -- ---- a loop to the first that has not ended
 
@@ -187,15 +190,24 @@ done-rested ps = at (list_all is_done ps)
     at false = done_rested_open ps
 
 -- once more, where there is a door
-rests_first : (ps : List ListenerTold) → 0 < length ps → added (rests_at ps) 1 ≤ rests_at (rested_first ps)
-rests_first [] some = absurd (none_inside 0 some)
-rests_first (p ∷ ps) some =
-    more_here p.door.rests (rests_at ps) (added p.door.rests 1) (rests_at (p ∷ ps)) (rests_at (rested_at p ∷ ps)) (2 ^ 64 - 1)
-    (sum_by-cons (λ (p : ListenerTold). p.door.rests) p ps) (sum_by-cons (λ (p : ListenerTold). p.door.rests) (rested_at p) ps) refl
+more_first : (f : ListenerTold → ℕ) → ((p : ListenerTold) → f (rested_at p) ≡ added (f p) 1) → (ps : List ListenerTold) → 0 < length ps
+    → added (sum_by f ps) 1 ≤ sum_by f (rested_first ps)
+more_first f more [] some = absurd (none_inside 0 some)
+more_first f more (p ∷ ps) some =
+    more_here (f p) (sum_by f ps) (f (rested_at p)) (sum_by f (p ∷ ps)) (sum_by f (rested_at p ∷ ps)) (2 ^ 64 - 1)
+    (sum_by-cons f p ps) (sum_by-cons f (rested_at p) ps) (more p)
+
+more_rested : (f : ListenerTold → ℕ) → ((p : ListenerTold) → f (rested_at p) ≡ added (f p) 1) → (ps : List ListenerTold) → 0 < length ps
+    → added (sum_by f ps) 1 ≤ sum_by f (after_rest ps)
+more_rested f more ps some = at (list_all is_done ps) refl
+  where
+    at : (b : Bool) → list_all is_done ps ≡ b → added (sum_by f ps) 1 ≤ sum_by f (cond b (rested_first ps) (rested_open ps))
+    at true is = more_first f more ps some
+    at false is = more_open f more ps is
 
 pub rests-rested : (ps : List ListenerTold) → 0 < length ps → added (rests_at ps) 1 ≤ rests_at (after_rest ps)
-rests-rested ps some = at (list_all is_done ps) refl
-  where
-    at : (b : Bool) → list_all is_done ps ≡ b → added (rests_at ps) 1 ≤ rests_at (cond b (rested_first ps) (rested_open ps))
-    at true is = rests_first ps some
-    at false is = rests_rested_open ps is
+rests-rested ps some = more_rested (λ (p : ListenerTold). p.door.rests) (λ p. refl) ps some
+
+-- in a row
+pub rows-rested : (ps : List ListenerTold) → 0 < length ps → added (rests_in_a_row_at ps) 1 ≤ rests_in_a_row_at (after_rest ps)
+rows-rested ps some = more_rested (λ (p : ListenerTold). p.door.rests_in_a_row) (λ p. refl) ps some

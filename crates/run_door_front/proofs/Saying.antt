@@ -16,7 +16,7 @@ use Rattle.behaviour_tree.specs.Data.{ProgramParts}
 use Rattle.behaviour_tree.specs.declared.words.Outcome.{Outcome}
 use Rattle.jsonrpc_text.specs.declared.message.Read.{Read}
 use Rattle.run_theorem.specs.Exchange.{Asked, Told, Received, Sent, Exchange, IsNew}
-use Rattle.run_theorem.specs.Calls.{After, Halts, IsDue, Tells, Notes, is_of, most_postings}
+use Rattle.run_theorem.specs.Calls.{After, Halts, IsDue, Tells, Notes, is_of}
 use Rattle.run_theorem.specs.Texts.{Came}
 use Rattle.run_theorem.specs.Lines.{IsPrefix}
 use Rattle.jsonrpc_postings.specs.Told.{came_for, response_told}
@@ -26,10 +26,10 @@ use Rattle.conn_future.specs.declared.stage.Stage.TheVariants as Stages
 use Rattle.conn_future.specs.Stages.{stage_of, IsOver}
 use Rattle.outside_traits.specs.Told.{WireTold}
 use Rattle.run_door_front.specs.declared.link.PendingReply.{PendingReply}
-use Rattle.run_door_front.specs.Keeping.{is_led, leads_of, lead_of, ListenerTold, ClientTold, Keeping, AreNew, IsEmpty, services_of, rests_at, no_more, leads_to, AreLed}
+use Rattle.run_door_front.specs.Keeping.{is_led, leads_of, lead_of, ListenerTold, ClientTold, Keeping, AreNew, IsEmpty, services_of, rests_at, rests_in_a_row_at, is_quiet, is_open_at, no_more, leads_to, AreLed}
 use Rattle.outside_traits.specs.Told.{SinkTold}
 use Rattle.outside_writing.specs.Sinks.{Takes}
-use Rattle.run_door_front.specs.Exchanged.{Sides, sides_of, OwesAt, IsClient, AreClients, IsHeard, IsPending, AreHeard, HadNoAnswer, Pause, for_answer, for_wire, at_end, is_for_answer, WasPaused, WerePaused, waits_at, HadNone, most_open, entire, HasExchanged, HasRunOut, MayHaveExchanged}
+use Rattle.run_door_front.specs.Exchanged.{Sides, sides_of, OwesAt, IsClient, AreClients, IsHeard, IsPending, AreHeard, HadNoAnswer, Pause, for_answer, for_wire, for_room, at_end, is_unended, row_of, WasPaused, WerePaused, HadNone, most_open, entire, HasExchanged, PausedSo, HasRunOut, MayHaveExchanged}
 use Rattle.run_door_front.specs.AnswerSteps.{told_of, Awaits, HasTold, HasAnswered}
 use Rattle.run_door_front.proofs.Changing.{eq_true, eq_false, not_eq, same_of, none_not_some, set_here, set_other, set_cases, list_all-set, slice_get-front, slice_get-last, map_alike, slice_get-mapped}
 use Rattle.run_door_front.proofs.Leading.{led-set, led-new}
@@ -85,6 +85,7 @@ link_told IsMade parts t l after v a h = record {
   stage = refl;
   memory = λ e. (let clash : Stages.Writes ≡ Stages.Spent = sym a.tells.writes ∙ e in cc);
   owes = subst (λ o. OwesAt o (stage_of after.seen.kept.next)) (sym a.paid) (λ e. (let clash : Stages.Writes ≡ Stages.Owes = sym a.tells.writes ∙ e in cc));
+  row = subst (λ n. n ≤ after.longest) (sym a.row) (subst (λ n. l.in_a_row ≤ n) (sym a.longest) h.row);
   first = h.first;
   made = h.made;
   fresh = h.fresh;
@@ -109,47 +110,42 @@ no_answer-more d later k same ts more seen h = record {
       ∙ h.untold;
 }
 
+-- how often in a row nothing was found stays
+row_same : (d later : Exchange) → later.received ≡ d.received → row_of later ≡ row_of d
+row_same d later same = ap (λ (b : Received). min b.waits (2 ^ 64 - 1)) same
+
 module _ (d later : Exchange) (same : later.received ≡ d.received) (ts : List Told) (more : later.sent.told ≡ d.sent.told ++ ts)
     (seen : d.received.seen ≤ length d.sent.told) where
-  was_paused-more : (k : ℕ) (p : Pause) (l : ClientTold) → WasPaused d k p l → WasPaused later k p l
+  was_paused-more : (k : ℕ) (p : Pause) (l : ClientTold) → WasPaused false d k p l → WasPaused false later k p l
   was_paused-more k for_answer l h = no_answer-more d later k same ts more seen h
-  was_paused-more k for_wire l h = h
+  was_paused-more k for_wire l h = (h.0, subst (λ n. n ≤ l.in_a_row) (sym (row_same d later same)) h.1)
+  was_paused-more k for_room l h = absurd (true≢false (sym h.0))
   was_paused-more k at_end l h = h
 
-  paused_more : (k : ℕ) (ps : List Pause) (ls : List ClientTold) → WerePaused d k ps ls → WerePaused later k ps ls
+  paused_more : (k : ℕ) (ps : List Pause) (ls : List ClientTold) → WerePaused false d k ps ls → WerePaused false later k ps ls
   paused_more k [] [] h = h
   paused_more k [] (l ∷ ls) h = absurd h
   paused_more k (p ∷ ps) [] h = absurd h
   paused_more k (p ∷ ps) (l ∷ ls) h = (was_paused-more k p l h.0, paused_more (suc k) ps ls h.1)
 
 -- what a connection that owed an answer is told changes nothing of why nothing came of it
-owing_paused : (d : Exchange) (k : ℕ) (p : Pause) (l after : ClientTold) → stage_of l.seen.kept.next ≡ Stages.Owes → after.waits ≡ l.waits → WasPaused d k p l
-    → WasPaused d k p after
-owing_paused d k for_answer l after owes waits h = h
-owing_paused d k for_wire l after owes waits h = subst (λ n. 0 < n) (sym waits) h
-owing_paused d k at_end l after owes waits h = absurd (not_over (stage_of l.seen.kept.next) owes h)
+owing_paused : (d : Exchange) (k : ℕ) (p : Pause) (l after : ClientTold) → stage_of l.seen.kept.next ≡ Stages.Owes
+    → stage_of after.seen.kept.next ≡ Stages.Writes → after.in_a_row ≡ l.in_a_row → WasPaused false d k p l → WasPaused false d k p after
+owing_paused d k for_answer l after owes writes row h = h
+owing_paused d k for_wire l after owes writes row h = (λ _. ap is_open_at writes, subst (λ n. row_of d ≤ n) (sym row) h.1)
+owing_paused d k for_room l after owes writes row h = absurd (true≢false (sym h.0))
+owing_paused d k at_end l after owes writes row h = absurd (not_over (stage_of l.seen.kept.next) owes h)
 
 -- nor of the others
 paused_set : (d : Exchange) (k : ℕ) (ps : List Pause) (ls : List ClientTold) (n : ℕ) (l after : ClientTold) → slice_get ls n ≡ Some l
-    → stage_of l.seen.kept.next ≡ Stages.Owes → after.waits ≡ l.waits → WerePaused d k ps ls → WerePaused d k ps (slice_set ls n after)
-paused_set d k [] [] n l after there owes waits h = h
-paused_set d k [] (x ∷ ls) n l after there owes waits h = absurd h
-paused_set d k (p ∷ ps) [] n l after there owes waits h = absurd h
-paused_set d k (p ∷ ps) (x ∷ ls) zero l after there owes waits h =
-    (owing_paused d k p l after owes waits (subst (WasPaused d k p) (same_of x l there) h.0), h.1)
-paused_set d k (p ∷ ps) (x ∷ ls) (suc n) l after there owes waits h = (h.0, paused_set d (suc k) ps ls n l after there owes waits h.1)
-
--- wires waited as often where one of them is another that waited as often
-waits_set : (ls : List ClientTold) (n : ℕ) (l after : ClientTold) → slice_get ls n ≡ Some l → after.waits ≡ l.waits
-    → sum_by (λ (l : ClientTold). l.waits) (slice_set ls n after) ≡ sum_by (λ (l : ClientTold). l.waits) ls
-waits_set [] n l after there waits = refl
-waits_set (x ∷ ls) zero l after there waits =
-    sum_by-cons (λ (l : ClientTold). l.waits) after ls
-    ∙ ap (λ k. k + sum_by (λ (l : ClientTold). l.waits) ls) (waits ∙ sym (ap (λ (l : ClientTold). l.waits) (same_of x l there)))
-    ∙ sym (sum_by-cons (λ (l : ClientTold). l.waits) x ls)
-waits_set (x ∷ ls) (suc n) l after there waits =
-    sum_by-cons (λ (l : ClientTold). l.waits) x (slice_set ls n after) ∙ ap (λ k. x.waits + k) (waits_set ls n l after there waits)
-    ∙ sym (sum_by-cons (λ (l : ClientTold). l.waits) x ls)
+    → stage_of l.seen.kept.next ≡ Stages.Owes → stage_of after.seen.kept.next ≡ Stages.Writes → after.in_a_row ≡ l.in_a_row
+    → WerePaused false d k ps ls → WerePaused false d k ps (slice_set ls n after)
+paused_set d k [] [] n l after there owes writes row h = h
+paused_set d k [] (x ∷ ls) n l after there owes writes row h = absurd h
+paused_set d k (p ∷ ps) [] n l after there owes writes row h = absurd h
+paused_set d k (p ∷ ps) (x ∷ ls) zero l after there owes writes row h =
+    (owing_paused d k p l after owes writes row (subst (WasPaused false d k p) (same_of x l there) h.0), h.1)
+paused_set d k (p ∷ ps) (x ∷ ls) (suc n) l after there owes writes row h = (h.0, paused_set d (suc k) ps ls n l after there owes writes row h.1)
 
 -- whether a connection can come asks for the doors and for how many connections there are
 no_more-same : (before now : Keeping) → now.doors ≡ before.doors → now.most ≡ before.most → length now.connections ≡ length before.connections
@@ -309,39 +305,31 @@ module _ (IsMade : WireTold → Type 0) (parts : ProgramParts) (first : Sides) (
 
   -- ---- all of it
 
+  count : length new.connections ≡ length old.connections
+  count = ap length a.connections ∙ length-set old.connections a.number a.after
+
   -- where there was no posting the connection waited for its answer
-  none_now : HadNone old d → HadNone new now_exchanged
-  none_now n =
-      let count : length new.connections ≡ length old.connections = ap length a.connections ∙ length-set old.connections a.number a.after in
-      let same : no_more new ≡ no_more old = no_more-same old new a.doors a.most count in
-      record {
-        pauses = n.pauses;
-        each = subst (WerePaused now_exchanged 0 n.pauses) (sym a.connections)
-            (paused_more d now_exchanged refl (told_of place outcomes ∷ []) refl h.seen 0 n.pauses (slice_set old.connections a.number a.after)
-            (paused_set d 0 n.pauses old.connections a.number a.link a.after a.there a.tells.tells.owing a.tells.waits n.each));
-        over = λ ended. (same ∙ (n.over ended).0, (n.over ended).1);
-        waited = λ ended. waited_by (n.waited ended);
-        rested = λ ended. subst (λ ps. min d.received.waits (2 ^ 64 - 1) ≤ rests_at ps) (sym a.doors) (n.rested ended);
-      }
-    where
-      waits : waits_at new.doors new.connections ≡ waits_at old.doors old.connections
-      waits =
-          ap₂ (λ ps ls. waits_at ps ls) a.doors a.connections
-          ∙ ap (λ k. sum_by (λ (p : ListenerTold). p.door.waits) old.doors + k) (waits_set old.connections a.number a.link a.after a.there a.tells.waits)
+  none_now : HadNone false old d → HadNone false new now_exchanged
+  none_now n = record {
+    pauses = n.pauses;
+    each = subst (WerePaused false now_exchanged 0 n.pauses) (sym a.connections)
+        (paused_more d now_exchanged refl (told_of place outcomes ∷ []) refl h.seen 0 n.pauses (slice_set old.connections a.number a.after)
+        (paused_set d 0 n.pauses old.connections a.number a.link a.after a.there a.tells.tells.owing a.tells.tells.writes a.tells.row n.each));
+    over = λ ended. (no_more-same old new a.doors a.most count ∙ (n.over ended).0, (n.over ended).1);
+    rested = subst (λ ps. row_of d ≤ rests_in_a_row_at ps) (sym a.doors) n.rested;
+    quiet = elim n.quiet [
+      | inl full ↦ inl (ap₂ (λ m k. nat_le m k || nat_le most_open (count_by is_unended n.pauses)) a.most count ∙ full)
+      | inr all ↦ inr (subst (λ ps. list_all (is_quiet (row_of d)) ps ≡ true) (sym a.doors) all)
+    ];
+  }
 
-      waited_by : (most_open ≤ count_by is_for_answer n.pauses) ⊎ (min d.received.waits (2 ^ 64 - 1) ≤ waits_at old.doors old.connections)
-          → (most_open ≤ count_by is_for_answer n.pauses) ⊎ (min d.received.waits (2 ^ 64 - 1) ≤ waits_at new.doors new.connections)
-      waited_by (inl full) = inl full
-      waited_by (inr waited) = inr (subst (λ k. min d.received.waits (2 ^ 64 - 1) ≤ k) (sym waits) waited)
-
-  none_by : HadNone old d ⊎ (most_postings ≤ length d.received.given) → HadNone new now_exchanged ⊎ (most_postings ≤ length d.received.given)
-  none_by (inl n) = inl (none_now n)
-  none_by (inr full) = inr full
+  pub paused_now : PausedSo false old d → PausedSo false new now_exchanged
+  paused_now before = λ runs gave. elim (before runs gave) [ inl n ↦ inl (none_now n) | inr many ↦ inr many ]
 
   -- what passed, with the answer
   exchanged_now : HasExchanged IsMade parts first (sides_of new notes) now_exchanged
   exchanged_now =
-      let count : length new.connections ≡ length old.connections = ap length a.connections ∙ length-set old.connections a.number a.after in
+      let as_many : length new.connections ≡ length old.connections = count in
       let heard_all : h.heard ≡ d.sent.told = h.all_told (h.sent.halted ∙ running) in
       let accepted : length old.connections ≤ old.most = h.accepted in
       let most : new.most ≡ old.most = a.most in
@@ -383,7 +371,7 @@ module _ (IsMade : WireTold → Type 0) (parts : ProgramParts) (first : Sides) (
         left = h.left;
         faults = h.faults;
         seen = omega arith;
-        none = λ runs gave. none_by (h.none runs gave);
+        moved = subst (λ ps. min d.received.moves (2 ^ 64 - 1) ≤ rests_at ps) (sym a.doors) h.moved;
       }
 
 -- ---- an answer is told to a front that halted
@@ -427,8 +415,11 @@ module _ (IsMade : WireTold → Type 0) (parts : ProgramParts) (first before : S
         left = h.left;
         faults = h.faults;
         seen = omega arith;
-        none = λ runs. absurd (true≢false (sym (h.sent.halted ∙ cut) ∙ runs));
+        moved = h.moved;
       }
+
+  paused_cut : PausedSo false before.kept (record { received = d.received; sent = record d.sent { told = d.sent.told ++ t ∷ [] } })
+  paused_cut = λ runs. absurd (true≢false (sym (h.sent.halted ∙ cut) ∙ runs))
 
 -- ---- a text is noted
 
@@ -443,16 +434,17 @@ module _ (IsMade : WireTold → Type 0) (parts : ProgramParts) (first : Sides) (
   noted_exchanged = record { received = d.received; sent = n.after }
 
   -- there was no posting as before
-  none_noted : HadNone old d ⊎ (most_postings ≤ length d.received.given)
-      → HadNone (record old { halted = halted }) noted_exchanged ⊎ (most_postings ≤ length d.received.given)
-  none_noted (inl k) = inl (record {
+  none_noted : HadNone false old d → HadNone false (record old { halted = halted }) noted_exchanged
+  none_noted k = record {
     pauses = k.pauses;
     each = paused_more d noted_exchanged refl [] (n.told ∙ sym (append-nil d.sent.told)) h.seen 0 k.pauses old.connections k.each;
     over = k.over;
-    waited = k.waited;
     rested = k.rested;
-  })
-  none_noted (inr full) = inr full
+    quiet = k.quiet;
+  }
+
+  paused_noted : PausedSo false old d → PausedSo false (record old { halted = halted }) noted_exchanged
+  paused_noted before = λ runs gave. elim (before (n.stays runs) gave) [ inl k ↦ inl (none_noted k) | inr many ↦ inr many ]
 
   exchanged_noted : HasExchanged IsMade parts first (sides_of (record old { halted = halted }) notes) noted_exchanged
   exchanged_noted = record {
@@ -484,7 +476,7 @@ module _ (IsMade : WireTold → Type 0) (parts : ProgramParts) (first : Sides) (
     left = h.left;
     faults = h.faults;
     seen = subst (λ l. d.received.seen ≤ length l) (sym n.told) h.seen;
-    none = λ runs gave. none_noted (h.none (n.stays runs) gave);
+    moved = h.moved;
   }
 
 -- ---- calls
@@ -493,7 +485,7 @@ module _ (IsMade : WireTold → Type 0) (parts : ProgramParts) (first : Sides) (
 pub halted_is : (IsMade : WireTold → Type 0) (parts : ProgramParts) (first now : Sides) (d : Exchange) → MayHaveExchanged IsMade parts first now d
     → d.sent.halted ≡ now.kept.halted
 halted_is IsMade parts first now d (inl out) = out.1
-halted_is IsMade parts first now d (inr h) = h.sent.halted
+halted_is IsMade parts first now d (inr h) = h.0.sent.halted
 
 module _ (IsMade : WireTold → Type 0) (parts : ProgramParts) (A B : Type 0) (a : A) (b : B) (first : Sides) (old : Keeping) (was : SinkTold) (d : Exchange)
     (h : MayHaveExchanged IsMade parts first (sides_of old was) d) where
@@ -502,10 +494,10 @@ module _ (IsMade : WireTold → Type 0) (parts : ProgramParts) (A B : Type 0) (a
   Same now x = A × B × MayHaveExchanged IsMade parts first now x
 
   -- what passed where memory had not run out
-  exchanged_yet : old.spent ≡ false → HasExchanged IsMade parts first (sides_of old was) d
+  exchanged_yet : old.spent ≡ false → HasExchanged IsMade parts first (sides_of old was) d × PausedSo false old d
   exchanged_yet lasts = by h
     where
-      by : MayHaveExchanged IsMade parts first (sides_of old was) d → HasExchanged IsMade parts first (sides_of old was) d
+      by : MayHaveExchanged IsMade parts first (sides_of old was) d → HasExchanged IsMade parts first (sides_of old was) d × PausedSo false old d
       by (inl out) = absurd (true≢false (sym out.0 ∙ lasts))
       by (inr k) = k
 
@@ -521,7 +513,14 @@ module _ (IsMade : WireTold → Type 0) (parts : ProgramParts) (A B : Type 0) (a
   told_cut-so place outcomes lasts cut =
       let t : Told = told_of place outcomes in (
         record { received = d.received; sent = record d.sent { told = d.sent.told ++ t ∷ [] } },
-        (a, b, inr (exchanged_cut IsMade parts first (sides_of old was) d t (exchanged_yet lasts) cut)),
+        (
+          a,
+          b,
+          inr (
+            exchanged_cut IsMade parts first (sides_of old was) d t (exchanged_yet lasts).0 cut,
+            paused_cut IsMade parts first (sides_of old was) d t (exchanged_yet lasts).0 cut,
+          ),
+        ),
         record { told = refl; noted = refl; notes_failed = refl; halts = halts_still d.sent (record d.sent { told = d.sent.told ++ t ∷ [] }) refl refl; received = refl },
       )
 
@@ -532,9 +531,17 @@ module _ (IsMade : WireTold → Type 0) (parts : ProgramParts) (A B : Type 0) (a
       → MatchResult r (λ _. After (Same (sides_of new was)) (Tells place outcomes d)) (λ _. Same (sides_of new was) d)
   told-so (Ok v) new place outcomes lasts running due answered out halted =
       let t : Told = told_of place outcomes in
-      let at = due_awaits IsMade parts first old was d place outcomes (exchanged_yet lasts) due in (
+      let yet = exchanged_yet lasts in
+      let at = due_awaits IsMade parts first old was d place outcomes yet.0 due in (
         record { received = d.received; sent = record d.sent { told = d.sent.told ++ t ∷ [] } },
-        (a, b, inr (exchanged_now IsMade parts first old new was d place outcomes (exchanged_yet lasts) due (answered at.0 at.1) running)),
+        (
+          a,
+          b,
+          inr (
+            exchanged_now IsMade parts first old new was d place outcomes yet.0 due (answered at.0 at.1) running,
+            paused_now IsMade parts first old new was d place outcomes yet.0 due (answered at.0 at.1) running yet.1,
+          ),
+        ),
         record { told = refl; noted = refl; notes_failed = refl; halts = halts_still d.sent (record d.sent { told = d.sent.told ++ t ∷ [] }) refl refl; received = refl },
       )
   told-so (Err e) new place outcomes lasts running due answered out halted =
@@ -553,9 +560,16 @@ module _ (IsMade : WireTold → Type 0) (parts : ProgramParts) (A B : Type 0) (a
             record { told = refl; noted = refl; notes_failed = notes_failed; halts = halts_still d.sent after refl refl; received = refl },
           )
       by (inr k) =
-          let n : NotesSo first (sides_of old was) d.sent k.sent.notes text = sent_cut first (sides_of old was) d.sent k.sent text cut in (
+          let n : NotesSo first (sides_of old was) d.sent k.0.sent.notes text = sent_cut first (sides_of old was) d.sent k.0.sent text cut in (
             record { received = d.received; sent = n.after },
-            (a, b, inr (exchanged_noted IsMade parts first old was was old.halted text d k n)),
+            (
+              a,
+              b,
+              inr (
+                exchanged_noted IsMade parts first old was was old.halted text d k.0 n,
+                paused_noted IsMade parts first old was was old.halted text d k.0 n k.1,
+              ),
+            ),
             record { told = n.told; noted = n.noted; notes_failed = n.notes_failed; halts = n.halts; received = refl },
           )
 
@@ -582,10 +596,17 @@ module _ (IsMade : WireTold → Type 0) (parts : ProgramParts) (A B : Type 0) (a
             record { told = n.2; noted = n.3; notes_failed = n.4; halts = n.5; received = refl },
           )
       by (inr k) =
-          let n : NotesSo first (sides_of (record old { halted = halted }) notes) d.sent k.sent.notes text =
-          sent_noted first (sides_of old was) d.sent k.sent halted notes text count running cut takes in (
+          let n : NotesSo first (sides_of (record old { halted = halted }) notes) d.sent k.0.sent.notes text =
+          sent_noted first (sides_of old was) d.sent k.0.sent halted notes text count running cut takes in (
             record { received = d.received; sent = n.after },
-            (a, b, inr (exchanged_noted IsMade parts first old was notes halted text d k n)),
+            (
+              a,
+              b,
+              inr (
+                exchanged_noted IsMade parts first old was notes halted text d k.0 n,
+                paused_noted IsMade parts first old was notes halted text d k.0 n k.1,
+              ),
+            ),
             record { told = n.told; noted = n.noted; notes_failed = n.notes_failed; halts = n.halts; received = refl },
           )
 
@@ -622,6 +643,7 @@ nothing_exchanged IsMade parts kept notes empty within = (
       asked = [];
       left = None;
       waits = 0;
+      moves = 0;
       ended = false;
       faults = 0;
       seen = 0;
@@ -634,6 +656,7 @@ nothing_exchanged IsMade parts kept notes empty within = (
     given = refl;
     asked = refl;
     waits = refl;
+    unmoved = refl;
     open_yet = refl;
     unseen = refl;
     unnoted = refl;
@@ -643,46 +666,52 @@ nothing_exchanged IsMade parts kept notes empty within = (
     writes = refl;
     notes_unfailed = refl;
   },
-  inr (record {
-    services = refl;
-    in_place = refl;
-    most = refl;
-    within = within;
-    connections = [];
-    clients = subst (λ ls. AreClients IsMade ls []) (sym empty.connections) tt;
-    came_in = no_wires kept.doors empty.doors ∙ sym (ap length empty.connections);
-    led = λ n. led-new n kept.doors empty.doors ∙ sym (ap (count_by (leads_to n)) empty.connections);
-    at_doors = refl;
-    accepted = subst (λ (ls : List ClientTold). length ls ≤ kept.most) (sym empty.connections) (omega arith);
-    all = record { asked = []; came = [] };
-    asked = refl;
-    traffics = sym empty.traffics;
-    taken = record { in_order = λ j q there. absurd (none_not_some q there); all = λ k connection there. absurd (none_not_some connection there) };
-    came = refl;
-    given = refl;
-    heard = [];
-    told = ([], refl);
-    all_told = λ _. refl;
-    heard_by = λ j n there. absurd (none_not_some n there);
-    places = refl;
-    answers = λ j q c connection asked. absurd (none_not_some q asked);
-    one_by_one = record { counts = refl; each = λ i j n q r there. absurd (none_not_some q there) };
-    sent = record {
-      notes = [];
-      written = Appends-nil notes.written;
-      noted = entire refl refl refl;
-      halted = sym empty.halted;
-      notes_failed = refl;
+  inr (
+    record {
+      services = refl;
+      in_place = refl;
+      most = refl;
+      within = within;
+      connections = [];
+      clients = subst (λ ls. AreClients IsMade ls []) (sym empty.connections) tt;
+      came_in = no_wires kept.doors empty.doors ∙ sym (ap length empty.connections);
+      led = λ n. led-new n kept.doors empty.doors ∙ sym (ap (count_by (leads_to n)) empty.connections);
+      at_doors = refl;
+      accepted = subst (λ (ls : List ClientTold). length ls ≤ kept.most) (sym empty.connections) (omega arith);
+      all = record { asked = []; came = [] };
+      asked = refl;
+      traffics = sym empty.traffics;
+      taken = record { in_order = λ j q there. absurd (none_not_some q there); all = λ k connection there. absurd (none_not_some connection there) };
+      came = refl;
+      given = refl;
+      heard = [];
+      told = ([], refl);
+      all_told = λ _. refl;
+      heard_by = λ j n there. absurd (none_not_some n there);
+      places = refl;
+      answers = λ j q c connection asked. absurd (none_not_some q asked);
+      one_by_one = record { counts = refl; each = λ i j n q r there. absurd (none_not_some q there) };
+      sent = record {
+        notes = [];
+        written = Appends-nil notes.written;
+        noted = entire refl refl refl;
+        halted = sym empty.halted;
+        notes_failed = refl;
+        faults = refl;
+      };
+      noted_by_then = ([], refl);
+      left = refl;
       faults = refl;
-    };
-    noted_by_then = ([], refl);
-    left = refl;
-    faults = refl;
-    seen = omega arith;
-    none = λ runs gave. absurd (not_asked gave);
-  }),
+      seen = omega arith;
+      moved = none_counted (rests_at kept.doors) (2 ^ 64 - 1);
+    },
+    λ runs gave. absurd (not_asked gave),
+  ),
 )
   where
+    none_counted : (a cap : ℕ) → min 0 cap ≤ a
+    none_counted a cap = omega arith
+
     not_asked : (false ≡ true) ⊎ (0 < 0) → ⊥
     not_asked (inl ended) = true≢false (sym ended)
     not_asked (inr waits) = omega arith

@@ -1,6 +1,6 @@
 -- A look goes by whole rounds.
-use Rattle.std.proofs.Common.{◌≡◌, refl, sym, ap, ap₂, ◌∙◌, subst, arith, ℕ, zero, suc, ◌+◌, ◌-◌, ◌<◌, ◌≤◌, Bool, true, false, ◌&&◌, ◌||◌, ◌⊎◌, inl, inr, List, [], ◌∷◌, ◌++◌, length, map, nat_lt, length-append, append-nil}
-use Rattle.std.proofs.lemmas.Bool.{and_parts, lt-ltb, ltb-true, ltb-false}
+use Rattle.std.proofs.Common.{◌≡◌, refl, sym, ap, ap₂, ◌∙◌, subst, arith, ℕ, suc, ◌+◌, ◌-◌, ◌<◌, ◌≤◌, Bool, true, false, ◌&&◌, ◌||◌, ◌⊎◌, inl, inr, List, [], ◌∷◌, ◌++◌, length, map, nat_lt, length-append, append-nil}
+use Rattle.std.proofs.lemmas.Bool.{and_parts, lt-ltb, ltb-true, ltb-false, true≢false}
 use Rattle.std.specs.List.{list_all}
 use Rattle.outside_traits.specs.Told.{WireTold}
 use Rattle.office_core.specs.declared.front.Posting.{Posting}
@@ -8,28 +8,27 @@ use Rattle.run_theorem.specs.declared.front.Next.TheVariants as nexts
 use Rattle.run_theorem.specs.Calls.{most_postings}
 use Rattle.run_door_front.specs.Keeping.{ListenerTold, ClientTold, owes_there, is_so, owes, closed_off}
 use Rattle.run_door_front.specs.NextSteps.{all_owing, after_rest, doorway, Accepts, queued, PollsAll, Listing, listing, Hands, Going, going}
-use Rattle.run_door_front.specs.Rounds.{any_moved, has_changed, rests_of, Round, IsUndone, Rounds, no_round, one_changed, one_moved, RoundsAndOne, most_rests, ByRounds}
+use Rattle.run_door_front.specs.Moving.{any_moved, HaveWaited}
+use Rattle.run_door_front.specs.Rounds.{has_changed, rests_of, Round, IsUndone, Rounds, no_round, one_changed, RoundsAndOne, RoundsToRest, ByRounds}
 use Rattle.run_door_front.proofs.Links.{clients-long}
 use Rattle.run_door_front.proofs.Lining.{opened_owing}
 
--- Rounds were made, with so many rests that so many are left of the most.
-pub record HasTurned (IsMade : WireTold → Type 0) (most left : ℕ) (before now : Going) : Type 0 where
-  pub rests : ℕ
-  pub counted : rests + left ≡ most_rests
-  pub rounds : Rounds IsMade most before rests now
+-- Rounds were made, in each of which somebody came or went; so there was one or not.
+pub record HasTurned (IsMade : WireTold → Type 0) (most : ℕ) (changed : Bool) (before now : Going) : Type 0 where
+  pub turns : ℕ
+  pub rounds : Rounds IsMade most before turns now
+  pub some : changed ≡ true → 0 < turns
+  pub none : changed ≡ false → turns ≡ 0
+  pub same : changed ≡ false → now ≡ before
 
-zero_plus : (n : ℕ) → 0 + n ≡ n
-zero_plus n = omega arith
-
-pub turned-none : (IsMade : WireTold → Type 0) (most left : ℕ) (x : Going) → left ≡ most_rests → HasTurned IsMade most left x x
-turned-none IsMade most left x all = record { rests = 0; counted = zero_plus left ∙ all; rounds = no_round }
-
-counted-more : (rests left cap : ℕ) → rests + left ≡ cap → (left ≡ 0 → ⊥) → suc rests + (left - 1) ≡ cap
-counted-more rests zero cap e some = absurd (some refl)
-counted-more rests (suc left) cap e some = omega (arith, e)
-
-counted-all : (rests left cap : ℕ) → rests + left ≡ cap → left ≡ 0 → rests ≡ cap
-counted-all rests left cap e none = omega (arith, e, none)
+pub turned-none : (IsMade : WireTold → Type 0) (most : ℕ) (x : Going) → HasTurned IsMade most false x x
+turned-none IsMade most x = record {
+  turns = 0;
+  rounds = no_round;
+  some = λ e. absurd (true≢false (sym e));
+  none = λ e. refl;
+  same = λ e. refl;
+}
 
 -- what is not less
 not_less : (a b : ℕ) → b ≤ a → nat_lt a b ≡ false
@@ -39,18 +38,18 @@ not_less a b h = by_test (nat_lt a b) refl
     by_test true e = let less = ltb-true a b e in absurd (omega (arith, h, less))
     by_test false e = e
 
-module _ (IsMade : WireTold → Type 0) (most left : ℕ) (x y : Going) (doors : List ListenerTold) (links now : List ClientTold) (among opened queue : List ℕ)
-    (few : length x.traffics < most_postings) (t : HasTurned IsMade most left x y)
+module _ (IsMade : WireTold → Type 0) (most : ℕ) (was : Bool) (x y : Going) (doors : List ListenerTold) (links now : List ClientTold) (among opened queue : List ℕ)
+    (few : length x.traffics < most_postings) (t : HasTurned IsMade most was x y)
     (a : Accepts IsMade most (doorway y.doors y.connections y.opened) (doorway doors links among)) (rests : map rests_of doors ≡ map rests_of y.doors)
-    (p : PollsAll (queued links among y.queue) (queued now opened queue)) where
+    (p : PollsAll (queued links among y.queue) (queued now opened queue)) (waited : HaveWaited links now) where
   abbrev after : Going
   after = going doors now opened queue y.traffics
 
   round : Round IsMade most y after
-  round = record { way = doorway doors links among; accepts = a; polls = p; doors = refl; rests = rests; traffics = refl }
+  round = record { way = doorway doors links among; accepts = a; polls = p; doors = refl; waited = waited; rests = rests; traffics = refl }
 
   abbrev all : RoundsAndOne IsMade most x after
-  all = record { fewer = few; rests = t.rests; start = y; rounds = t.rounds; last = round }
+  all = record { fewer = few; turns = t.turns; start = y; rounds = t.rounds; last = round }
 
   -- whether each that is open waits for an answer
   owing_is : list_all (owes_there now) opened ≡ all_owing now
@@ -96,11 +95,13 @@ module _ (IsMade : WireTold → Type 0) (most left : ℕ) (x y : Going) (doors :
         by_came true e = refl
         by_came false e = lt-ltb (length opened) (length y.opened) (fewer (ltb-false (length y.connections) (length now) e) h)
 
-    pub rounds-changed : (length y.connections < length links) ⊎ (length opened < length among) → HasTurned IsMade most left x (going doors now opened queue y.traffics)
+    pub rounds-changed : (length y.connections < length links) ⊎ (length opened < length among) → HasTurned IsMade most true x (going doors now opened queue y.traffics)
     rounds-changed h = record {
-      rests = t.rests;
-      counted = t.counted;
-      rounds = one_changed t.rests y after t.rounds round undone (changed h);
+      turns = suc t.turns;
+      rounds = one_changed t.turns y after t.rounds round undone (changed h);
+      some = λ e. omega arith;
+      none = λ e. absurd (true≢false e);
+      same = λ e. absurd (true≢false e);
     }
 
     module _ (nobody : length links ≤ length y.connections) (stayed : length among ≤ length opened) where
@@ -126,28 +127,24 @@ module _ (IsMade : WireTold → Type 0) (most left : ℕ) (x y : Going) (doors :
       moved_is : (moved : Bool) → moved ≡ any_moved links now → any_moved y.connections now ≡ moved
       moved_is moved is = ap (λ ls. any_moved ls now) (sym same_links) ∙ sym is
 
-      -- bytes moved
-      pub rounds-moved : (moved : Bool) → moved ≡ any_moved links now → moved ≡ true → (left ≡ 0 → ⊥) → (later : List ListenerTold) → later ≡ after_rest doors
-          → HasTurned IsMade most (left - 1) x (going later now opened queue y.traffics)
-      rounds-moved moved is so some_left later rested =
-          subst (λ ps. HasTurned IsMade most (left - 1) x (going ps now opened queue y.traffics)) (sym rested) (record {
-            rests = suc t.rests;
-            counted = counted-more t.rests left most_rests t.counted some_left;
-            rounds = one_moved t.rests y after t.rounds round undone unchanged (moved_is moved is ∙ so);
-          })
+      abbrev rest_now : RoundsToRest IsMade most x (going (after_rest doors) now opened queue y.traffics)
+      rest_now = record { mid = after; rounds = all; undone = undone; unchanged = unchanged; rested = refl }
 
-      -- nothing comes for now
-      pub rounds-yet : (moved : Bool) → moved ≡ any_moved links now → (moved ≡ false) ⊎ (left ≡ 0) → (later : List ListenerTold) → later ≡ after_rest doors
+      -- something moved
+      pub rounds-moved : (moved : Bool) → moved ≡ any_moved links now → (was ≡ true) ⊎ (moved ≡ true) → (later : List ListenerTold) → later ≡ after_rest doors
+          → ByRounds IsMade most nexts.Moved x (going later now opened queue y.traffics)
+      rounds-moved moved is some later rested =
+          subst (λ ps. ByRounds IsMade most nexts.Moved x (going ps now opened queue y.traffics)) (sym rested) (
+            rest_now,
+            elim some [ inl before ↦ inl (t.some before) | inr so ↦ inr (moved_is moved is ∙ so) ],
+          )
+
+      -- nothing moved
+      pub rounds-still : (moved : Bool) → moved ≡ any_moved links now → was ≡ false → moved ≡ false → (later : List ListenerTold) → later ≡ after_rest doors
           → ByRounds IsMade most nexts.NotYet x (going later now opened queue y.traffics)
-      rounds-yet moved is still later rested =
-          subst (λ ps. ByRounds IsMade most nexts.NotYet x (going ps now opened queue y.traffics)) (sym rested) (record {
-            mid = after;
-            rounds = all;
-            undone = undone;
-            unchanged = unchanged;
-            still = elim still [
-              | inl so ↦ inl (moved_is moved is ∙ so)
-              | inr zero_left ↦ inr (counted-all t.rests left most_rests t.counted zero_left)
-            ];
-            rested = refl;
-          })
+      rounds-still moved is none still later rested =
+          subst (λ ps. ByRounds IsMade most nexts.NotYet x (going ps now opened queue y.traffics)) (sym rested) (
+            rest_now,
+            t.none none,
+            moved_is moved is ∙ still,
+          )

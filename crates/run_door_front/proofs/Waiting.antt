@@ -1,13 +1,12 @@
 -- When a front over doors has no posting.
-use Rattle.std.proofs.Common.{◌≡◌, refl, sym, ap, ap₂, ◌∙◌, subst, arith, ℕ, suc, ◌+◌, ◌-◌, ◌^◌, ◌<◌, ◌≤◌, min, Bool, true, false, not, cond, ◌&&◌, ◌||◌, inl, inr, List, [], ◌∷◌, length, map, take, Some, count_by, slice_get, nat_eq}
+use Rattle.std.proofs.Common.{◌≡◌, refl, sym, ap, ap₂, ◌∙◌, subst, arith, ℕ, suc, ◌+◌, ◌-◌, ◌^◌, ◌≤◌, min, Bool, true, false, not, cond, ◌||◌, ◌⊎◌, inl, inr, List, [], ◌∷◌, length, map, take, Some, count_by, slice_get, nat_eq, nat_le}
 use Rattle.std.specs.Prelude.{Contains}
-use Rattle.std.specs.List.{list_all, list_any, sum_by}
-use Rattle.std.proofs.lemmas.Bool.{and_parts, true≢false}
+use Rattle.std.specs.List.{list_all, list_any}
+use Rattle.std.proofs.lemmas.Bool.{and_parts, and_from, le-leb, leb-true, true≢false}
 use Rattle.std.proofs.lemmas.Option.{none-some, same_Some}
 use Rattle.std.proofs.lemmas.List.Folds.{list_any_at}
-use Rattle.std.proofs.lemmas.List.Sums.{sum_by-cons}
 use Rattle.behaviour_tree.specs.Data.{ProgramParts}
-use Rattle.outside_doors.specs.Counts.{added}
+use Rattle.outside_doors.specs.Counts.{has_ended}
 use Rattle.run_theorem.specs.Exchange.{Told, Exchange}
 use Rattle.run_theorem.specs.Calls.{is_of}
 use Rattle.run_theorem.specs.RunConnections.{RunConnection}
@@ -16,66 +15,14 @@ use Rattle.conn_future.specs.declared.stage.Stage.{Stage}
 use Rattle.conn_future.specs.declared.stage.Stage.TheVariants as Stages
 use Rattle.conn_future.specs.Stages.{IsOver}
 use Rattle.outside_traits.specs.Told.{WireTold}
-use Rattle.run_door_front.specs.Keeping.{Lead, ListenerTold, ClientTold, stage_at, owes_at, owes, is_open_at, is_open}
-use Rattle.run_door_front.specs.Exchanged.{OwesAt, HadNoAnswer, Pause, for_answer, for_wire, at_end, is_for_answer, is_for_wire, WasPaused, WerePaused}
-use Rattle.run_door_front.specs.NextSteps.{HasNotFallen, AllGoOn, IsTried, AreTried, ClientGoesOn, LinksGoOn, all_owing, HasPaused, HavePaused}
+use Rattle.run_door_front.specs.Keeping.{Lead, ListenerTold, ClientTold, is_quiet, stage_at, owes_at, owes, is_open_at, is_open}
+use Rattle.run_door_front.specs.Exchanged.{OwesAt, HadNoAnswer, Pause, for_answer, for_wire, for_room, at_end, is_unended, is_for_wire, row_of, WasPaused, WerePaused}
+use Rattle.run_door_front.specs.NextSteps.{AllGoOn, IsTriedInARow, AreTriedInARow, LinksGoOn, all_owing, HasPausedInARow, HavePausedInARow}
 use Rattle.run_door_front.proofs.Entries.{one_if, count_cons, last_of, nat_eq_same, nat_eq_is}
 use Rattle.run_door_front.proofs.Counting.{texts-where_owes}
-use Rattle.run_door_front.proofs.Doors.{waits-on, sum_not_fallen}
-use Rattle.run_door_front.proofs.Resting.{is_done}
 use Rattle.run_door_front.proofs.Lining.{closed_over}
 use Rattle.run_door_front.proofs.Requests.{Serves, came_some, connection_there}
 use Rattle.run_door_front.proofs.OneMore.{link_there}
-
--- ---- waits
-
-pub once_more : (n w cap v : ℕ) → min n cap ≤ w → min (w + 1) cap ≤ v → min (suc n) cap ≤ v
-once_more n w cap v h k = omega arith
-
-more_here : (p s q t m n cap : ℕ) → m ≡ p + s → n ≡ q + t → min (p + 1) cap ≤ q → min s cap ≤ t → min (m + 1) cap ≤ n
-more_here p s q t m n cap a b h k = omega arith
-
-more_there : (p s q t m n cap : ℕ) → m ≡ p + s → n ≡ q + t → min p cap ≤ q → min (s + 1) cap ≤ t → min (m + 1) cap ≤ n
-more_there p s q t m n cap a b h k = omega arith
-
-abbrev door_waits : ListenerTold → ℕ
-door_waits p = p.door.waits
-
-abbrev link_waits : ClientTold → ℕ
-link_waits l = l.waits
-
--- where doors were tried of which one has not ended, they waited once more in all
-pub doors_waited : (ps qs : List ListenerTold) → AllGoOn ps qs → AreTried ps qs → list_all is_done qs ≡ false
-    → added (sum_by (λ (p : ListenerTold). p.door.waits) ps) 1 ≤ sum_by (λ (p : ListenerTold). p.door.waits) qs
-doors_waited [] [] g t some = absurd (true≢false some)
-doors_waited [] (q ∷ qs) g t some = absurd g
-doors_waited (p ∷ ps) [] g t some = absurd g
-doors_waited (p ∷ ps) (q ∷ qs) g t some = at (λ others. doors_waited ps qs g.1 t.1 others) (is_done q) refl some
-  where
-    here : IsTried p q → is_done q ≡ false → added p.door.waits 1 ≤ q.door.waits
-    here (inl done) e = absurd (true≢false (sym done ∙ e))
-    here (inr more) e = more
-
-    at : (list_all is_done qs ≡ false → added (sum_by door_waits ps) 1 ≤ sum_by door_waits qs) → (b : Bool) → is_done q ≡ b
-        → b && list_all is_done qs ≡ false → added (sum_by door_waits (p ∷ ps)) 1 ≤ sum_by door_waits (q ∷ qs)
-    at rest true e others =
-        more_there p.door.waits (sum_by door_waits ps) q.door.waits (sum_by door_waits qs) (sum_by door_waits (p ∷ ps)) (sum_by door_waits (q ∷ qs)) (2 ^ 64 - 1)
-        (sum_by-cons door_waits p ps) (sum_by-cons door_waits q qs) g.0.waits (rest others)
-    at rest false e others =
-        more_here p.door.waits (sum_by door_waits ps) q.door.waits (sum_by door_waits qs) (sum_by door_waits (p ∷ ps)) (sum_by door_waits (q ∷ qs)) (2 ^ 64 - 1)
-        (sum_by-cons door_waits p ps) (sum_by-cons door_waits q qs) (here t.0 e) (waits-on ps qs g.1)
-
-none_fallen : (a cap : ℕ) → min 0 cap ≤ a
-none_fallen a cap = omega arith
-
--- the waits of wires do not fall
-pub links_waits : (IsMade : WireTold → Type 0) (leads : List Lead) (ls ms : List ClientTold) → LinksGoOn IsMade leads ls ms
-    → HasNotFallen (sum_by (λ (l : ClientTold). l.waits) ls) (sum_by (λ (l : ClientTold). l.waits) ms)
-links_waits IsMade leads [] ms g = none_fallen (sum_by link_waits ms) (2 ^ 64 - 1)
-links_waits IsMade leads (l ∷ ls) [] g = absurd g
-links_waits IsMade leads (l ∷ ls) (m ∷ ms) g =
-    sum_not_fallen l.waits (sum_by link_waits ls) m.waits (sum_by link_waits ms) (sum_by link_waits (l ∷ ls)) (sum_by link_waits (m ∷ ms)) (2 ^ 64 - 1)
-    (sum_by-cons link_waits l ls) (sum_by-cons link_waits m ms) g.0.waits (links_waits IsMade leads ls ms g.1)
 
 -- a stage that is over is not open
 over_closed : (s : Stage) → IsOver s → (open_at : Stage → Bool) → open_at Stages.Ended ≡ false → open_at Stages.Closed ≡ false → open_at Stages.ReadFailed ≡ false
@@ -84,43 +31,6 @@ over_closed s (inl e) f a b c d = ap f e ∙ a
 over_closed s (inr (inl e)) f a b c d = ap f e ∙ b
 over_closed s (inr (inr (inl e))) f a b c d = ap f e ∙ c
 over_closed s (inr (inr (inr e))) f a b c d = ap f e ∙ d
-
--- one of which nothing comes and that neither owes nor is over had a wire that could move nothing yet
-waited_then : (waits : ℕ) (m : ClientTold) → HasPaused waits m → owes m || not (is_open m) ≡ false → added waits 1 ≤ m.waits
-waited_then waits m (inl owing) e = absurd (true≢false (sym (ap (λ b. b || not (is_open m)) (ap owes_at owing)) ∙ e))
-waited_then waits m (inr (inl over)) e =
-    absurd (true≢false (sym (ap (λ b. owes m || not b) (over_closed (stage_at m) over is_open_at refl refl refl refl) ∙ or_true (owes m)) ∙ e))
-  where
-    or_true : (b : Bool) → b || true ≡ true
-    or_true true = refl
-    or_true false = refl
-waited_then waits m (inr (inr more)) e = more
-
--- where one of them does so they waited once more in all
-pub links_waited : (IsMade : WireTold → Type 0) (leads : List Lead) (ls ms : List ClientTold) → LinksGoOn IsMade leads ls ms → HavePaused ls ms → all_owing ms ≡ false
-    → added (sum_by (λ (l : ClientTold). l.waits) ls) 1 ≤ sum_by (λ (l : ClientTold). l.waits) ms
-links_waited IsMade leads [] [] g h some = absurd (true≢false some)
-links_waited IsMade leads [] (m ∷ ms) g h some = at (λ others. links_waited IsMade leads [] ms g.2 h.1 others) (owes m || not (is_open m)) refl some
-  where
-    at : (all_owing ms ≡ false → added (sum_by link_waits []) 1 ≤ sum_by link_waits ms) → (b : Bool) → owes m || not (is_open m) ≡ b
-        → b && all_owing ms ≡ false → added (sum_by link_waits []) 1 ≤ sum_by link_waits (m ∷ ms)
-    at rest true e others =
-        more_there 0 (sum_by link_waits []) m.waits (sum_by link_waits ms) (sum_by link_waits []) (sum_by link_waits (m ∷ ms)) (2 ^ 64 - 1)
-        refl (sum_by-cons link_waits m ms) (none_fallen m.waits (2 ^ 64 - 1)) (rest others)
-    at rest false e others =
-        more_here 0 (sum_by link_waits []) m.waits (sum_by link_waits ms) (sum_by link_waits []) (sum_by link_waits (m ∷ ms)) (2 ^ 64 - 1)
-        refl (sum_by-cons link_waits m ms) (waited_then 0 m h.0 e) (none_fallen (sum_by link_waits ms) (2 ^ 64 - 1))
-links_waited IsMade leads (l ∷ ls) [] g h some = absurd g
-links_waited IsMade leads (l ∷ ls) (m ∷ ms) g h some = at (λ others. links_waited IsMade leads ls ms g.1 h.1 others) (owes m || not (is_open m)) refl some
-  where
-    at : (all_owing ms ≡ false → added (sum_by link_waits ls) 1 ≤ sum_by link_waits ms) → (b : Bool) → owes m || not (is_open m) ≡ b
-        → b && all_owing ms ≡ false → added (sum_by link_waits (l ∷ ls)) 1 ≤ sum_by link_waits (m ∷ ms)
-    at rest true e others =
-        more_there l.waits (sum_by link_waits ls) m.waits (sum_by link_waits ms) (sum_by link_waits (l ∷ ls)) (sum_by link_waits (m ∷ ms)) (2 ^ 64 - 1)
-        (sum_by-cons link_waits l ls) (sum_by-cons link_waits m ms) g.0.waits (rest others)
-    at rest false e others =
-        more_here l.waits (sum_by link_waits ls) m.waits (sum_by link_waits ms) (sum_by link_waits (l ∷ ls)) (sum_by link_waits (m ∷ ms)) (2 ^ 64 - 1)
-        (sum_by-cons link_waits l ls) (sum_by-cons link_waits m ms) (waited_then l.waits m h.0 e) (links_waits IsMade leads ls ms g.1)
 
 -- ---- connections that owe an answer
 
@@ -135,42 +45,90 @@ owes_is Stages.ReadFailed e = absurd (true≢false (sym e))
 owes_is Stages.WriteFailed e = absurd (true≢false (sym e))
 owes_is Stages.Spent e = absurd (true≢false (sym e))
 
--- where each that is open owes, at least as many owe as are open
-pub opened_owe : (ls : List ClientTold) → all_owing ls ≡ true → count_by is_open ls ≤ count_by owes ls
-opened_owe [] e = let none : count_by is_open [] ≡ 0 = refl in omega arith
-opened_owe (l ∷ ls) e =
-    let both = and_parts (owes l || not (is_open l)) (all_owing ls) e in
-    let rest = opened_owe ls both.1 in
-    let one = at (is_open l) (owes l) both.0 in
-    let a = count_cons is_open l ls in
-    let b = count_cons owes l ls in
-    omega (arith, rest, one, a, b)
+owes_open : (s : Stage) → owes_at s ≡ true → is_open_at s ≡ true
+owes_open s e = ap is_open_at (owes_is s e)
+
+-- ---- rows
+
+-- A connection waits for an answer, it is over, or the last that its wire answered is, so often in a row, that it can
+-- move nothing yet.
+abbrev pub HasRow : ℕ → ClientTold → Type 0
+HasRow row m = (owes m ≡ true) ⊎ ((is_open m ≡ false) ⊎ (row ≤ m.in_a_row))
+
+abbrev pub AllRows : ℕ → List ClientTold → Type 0
+AllRows row [] = Unit {0}
+AllRows row (m ∷ ms) = HasRow row m × AllRows row ms
+
+pub rows-none : (row : ℕ) → row ≡ 0 → (ms : List ClientTold) → AllRows row ms
+rows-none row none [] = tt
+rows-none row none (m ∷ ms) = (inr (inr (least row m.in_a_row none)), rows-none row none ms)
   where
-    at : (o w : Bool) → w || not o ≡ true → one_if o ≤ one_if w
-    at true true h = omega arith
-    at true false h = absurd (true≢false (sym h))
-    at false w h = omega arith
+    least : (a b : ℕ) → a ≡ 0 → a ≤ b
+    least a b e = omega arith
 
--- ---- those that owe go on
+-- with any last value of their type
+pub once_more : (n w cap v : ℕ) → min n cap ≤ w → min (w + 1) cap ≤ v → min (suc n) cap ≤ v
+once_more n w cap v h k = omega arith
 
-owes_still : (l m : ClientTold) → ClientGoesOn l m → one_if (owes l) ≤ one_if (owes m)
-owes_still l m g = by_stage (owes l) refl
+-- once more in a row
+pub rows-more : (IsMade : WireTold → Type 0) (leads : List Lead) (n : ℕ) (ls ms : List ClientTold) → LinksGoOn IsMade leads ls ms → HavePausedInARow ls ms
+    → AllRows (min n (2 ^ 64 - 1)) ls → AllRows (min (suc n) (2 ^ 64 - 1)) ms
+rows-more IsMade leads n [] [] g p r = tt
+rows-more IsMade leads n [] (m ∷ ms) g p r = absurd p
+rows-more IsMade leads n (l ∷ ls) [] g p r = absurd p
+rows-more IsMade leads n (l ∷ ls) (m ∷ ms) g p r = (one p.0 r.0, rows-more IsMade leads n ls ms g.1 p.1 r.1)
   where
-    by_stage : (b : Bool) → owes l ≡ b → one_if (owes l) ≤ one_if (owes m)
-    by_stage true e =
-        let same : one_if (owes m) ≡ one_if (owes l) = ap (λ (x : ClientTold). one_if (owes x)) (g.rests (inl (inr (owes_is (stage_at l) e)))) in
-        omega arith
-    by_stage false e = let none : one_if (owes l) ≡ 0 = ap one_if e in omega arith
+    closed : (x : ClientTold) → IsOver (stage_at x) → is_open x ≡ false
+    closed x over = over_closed (stage_at x) over is_open_at refl refl refl refl
 
-pub owes-grow : (IsMade : WireTold → Type 0) (leads : List Lead) (ls ms : List ClientTold) → LinksGoOn IsMade leads ls ms → count_by owes ls ≤ count_by owes ms
-owes-grow IsMade leads [] ms g = let none : count_by owes [] ≡ 0 = refl in omega arith
-owes-grow IsMade leads (l ∷ ls) [] g = absurd g
-owes-grow IsMade leads (l ∷ ls) (m ∷ ms) g =
-    let a = count_cons owes l ls in
-    let b = count_cons owes m ms in
-    let c = owes_still l m g.0 in
-    let d = owes-grow IsMade leads ls ms g.1 in
-    omega arith
+    one : HasPausedInARow l m → HasRow (min n (2 ^ 64 - 1)) l → HasRow (min (suc n) (2 ^ 64 - 1)) m
+    one (inl owing) h = inl (ap owes_at owing)
+    one (inr (inl over)) h = inr (inl (closed m over))
+    one (inr (inr more)) (inl owing) = inl (ap (λ (x : ClientTold). owes x) (g.0.rests (inl (inr (owes_is (stage_at l) owing)))) ∙ owing)
+    one (inr (inr more)) (inr (inl over)) =
+        inr (inl (ap (λ (x : ClientTold). is_open x) (g.0.rests (inr (closed_over (stage_at l) over))) ∙ over))
+    one (inr (inr more)) (inr (inr row)) = inr (inr (once_more n l.in_a_row (2 ^ 64 - 1) m.in_a_row row more))
+
+-- ---- doors at which nobody comes
+
+pub quiet-none : (row : ℕ) → row ≡ 0 → (ps : List ListenerTold) → list_all (is_quiet row) ps ≡ true
+quiet-none row none [] = refl
+quiet-none row none (p ∷ ps) =
+    and_from (is_quiet row p) (list_all (is_quiet row) ps) (or_true (has_ended p.door) (le-leb row p.door.waits_in_a_row (least row p.door.waits_in_a_row none)))
+    (quiet-none row none ps)
+  where
+    least : (a b : ℕ) → a ≡ 0 → a ≤ b
+    least a b e = omega arith
+
+    or_true : (b : Bool) {c : Bool} → c ≡ true → b || c ≡ true
+    or_true true e = refl
+    or_true false e = e
+
+-- once more in a row
+pub quiet-more : (n : ℕ) (ps qs : List ListenerTold) → AllGoOn ps qs → AreTriedInARow ps qs → list_all (is_quiet (min n (2 ^ 64 - 1))) ps ≡ true
+    → list_all (is_quiet (min (suc n) (2 ^ 64 - 1))) qs ≡ true
+quiet-more n [] [] g t e = refl
+quiet-more n [] (q ∷ qs) g t e = absurd g
+quiet-more n (p ∷ ps) [] g t e = absurd g
+quiet-more n (p ∷ ps) (q ∷ qs) g t e =
+    let both = and_parts (is_quiet (min n (2 ^ 64 - 1)) p) (list_all (is_quiet (min n (2 ^ 64 - 1))) ps) e in
+    and_from (is_quiet (min (suc n) (2 ^ 64 - 1)) q) (list_all (is_quiet (min (suc n) (2 ^ 64 - 1))) qs) (one t.0 (has_ended p.door) refl both.0)
+    (quiet-more n ps qs g.1 t.1 both.1)
+  where
+    ended : has_ended q.door ≡ true → is_quiet (min (suc n) (2 ^ 64 - 1)) q ≡ true
+    ended done = ap (λ b. b || nat_le (min (suc n) (2 ^ 64 - 1)) q.door.waits_in_a_row) done
+
+    or_true : (b : Bool) {c : Bool} → c ≡ true → b || c ≡ true
+    or_true true e = refl
+    or_true false e = e
+
+    one : IsTriedInARow p q → (b : Bool) → has_ended p.door ≡ b → b || nat_le (min n (2 ^ 64 - 1)) p.door.waits_in_a_row ≡ true
+        → is_quiet (min (suc n) (2 ^ 64 - 1)) q ≡ true
+    one (inl done) b is h = ended done
+    one (inr more) true is h = ended (g.0.ended is)
+    one (inr more) false is h =
+        or_true (has_ended q.door) (le-leb (min (suc n) (2 ^ 64 - 1)) q.door.waits_in_a_row
+        (once_more n p.door.waits_in_a_row (2 ^ 64 - 1) q.door.waits_in_a_row (leb-true (min n (2 ^ 64 - 1)) p.door.waits_in_a_row h) more))
 
 -- ---- why nothing comes of each
 
@@ -178,15 +136,17 @@ owes-grow IsMade leads (l ∷ ls) (m ∷ ms) g =
 abbrev pub pause_of : ClientTold → Pause
 pause_of link = cond (owes link) for_answer (cond (is_open link) for_wire at_end)
 
-pub pause-count : (ls : List ClientTold) → count_by is_for_answer (map pause_of ls) ≡ count_by owes ls
+-- as many have not ended as are open
+pub pause-count : (ls : List ClientTold) → count_by is_unended (map pause_of ls) ≡ count_by is_open ls
 pause-count [] = refl
 pause-count (l ∷ ls) =
-    count_cons is_for_answer (pause_of l) (map pause_of ls) ∙ ap₂ (λ (b : Bool) (n : ℕ). one_if b + n) (at (owes l) (is_open l)) (pause-count ls) ∙ sym (count_cons owes l ls)
+    count_cons is_unended (pause_of l) (map pause_of ls)
+    ∙ ap₂ (λ (b : Bool) (n : ℕ). one_if b + n) (at (owes l) (is_open l) (owes_open (stage_at l))) (pause-count ls) ∙ sym (count_cons is_open l ls)
   where
-    at : (w o : Bool) → is_for_answer (cond w for_answer (cond o for_wire at_end)) ≡ w
-    at true o = refl
-    at false true = refl
-    at false false = refl
+    at : (w o : Bool) → (w ≡ true → o ≡ true) → is_unended (cond w for_answer (cond o for_wire at_end)) ≡ o
+    at true o h = sym (h refl)
+    at false true h = refl
+    at false false h = refl
 
 -- where each that is open owes, none is for its wire
 pub none_for_wire : (ls : List ClientTold) → all_owing ls ≡ true → list_any is_for_wire (map pause_of ls) ≡ false
@@ -199,12 +159,6 @@ none_for_wire (l ∷ ls) e =
     at true o h = refl
     at false true h = absurd (true≢false (sym h))
     at false false h = refl
-
-some_waits : (a b : ℕ) → added a 1 ≤ b → 0 < b
-some_waits a b h = by (2 ^ 64 - 1) h (omega arith)
-  where
-    by : (cap : ℕ) → min (a + 1) cap ≤ b → 0 < cap → 0 < b
-    by cap h k = omega arith
 
 -- ---- requests without an answer
 
@@ -262,18 +216,21 @@ module _ (IsMade : WireTold → Type 0) (parts : ProgramParts) (leads : List Lea
 
   -- each of them paused
   module _ (k : ℕ) where
-    paused_by : (waits : ℕ) (m : ClientTold) → HasPaused waits m → (owes m ≡ true → HadNoAnswer d k) → WasPaused d k (pause_of m) m
-    paused_by waits m h answer = at (owes m) (is_open m) refl refl
+    paused_by : (m : ClientTold) → HasRow (row_of d) m → (owes m ≡ true → HadNoAnswer d k) → WasPaused false d k (pause_of m) m
+    paused_by m h answer = at (owes m) (is_open m) refl refl h
       where
-        at : (w o : Bool) → owes m ≡ w → is_open m ≡ o → WasPaused d k (cond w for_answer (cond o for_wire at_end)) m
-        at true o e f = answer e
-        at false true e f = some_waits waits m.waits (waited_then waits m h (ap₂ (λ a b. a || not b) e f))
-        at false false e f = closed_over (stage_at m) f
+        at : (w o : Bool) → owes m ≡ w → is_open m ≡ o → (w ≡ true) ⊎ ((o ≡ false) ⊎ (row_of d ≤ m.in_a_row))
+            → WasPaused false d k (cond w for_answer (cond o for_wire at_end)) m
+        at true o e f h = answer e
+        at false true e f (inl owing) = absurd (true≢false (sym owing))
+        at false true e f (inr (inl over)) = absurd (true≢false over)
+        at false true e f (inr (inr row)) = (λ _. f, row)
+        at false false e f h = closed_over (stage_at m) f
 
-    owing_by : (m : ClientTold) → owes m || not (is_open m) ≡ true → (owes m ≡ true → HadNoAnswer d k) → WasPaused d k (pause_of m) m
+    owing_by : (m : ClientTold) → owes m || not (is_open m) ≡ true → (owes m ≡ true → HadNoAnswer d k) → WasPaused false d k (pause_of m) m
     owing_by m h answer = at (owes m) (is_open m) refl refl h
       where
-        at : (w o : Bool) → owes m ≡ w → is_open m ≡ o → w || not o ≡ true → WasPaused d k (cond w for_answer (cond o for_wire at_end)) m
+        at : (w o : Bool) → owes m ≡ w → is_open m ≡ o → w || not o ≡ true → WasPaused false d k (cond w for_answer (cond o for_wire at_end)) m
         at true o e f i = answer e
         at false true e f i = absurd (true≢false (sym i))
         at false false e f i = closed_over (stage_at m) f
@@ -293,15 +250,12 @@ module _ (IsMade : WireTold → Type 0) (parts : ProgramParts) (leads : List Lea
   rest_answers : (k : ℕ) (m : ClientTold) (ms : List ClientTold) → HaveNone k (m ∷ ms) → HaveNone (suc k) ms
   rest_answers k m ms f i link is o = subst (HadNoAnswer d) (sym (further k i)) (f (suc i) link is o)
 
-  all_paused : (k : ℕ) (ls ms : List ClientTold) → HavePaused ls ms → HaveNone k ms → WerePaused d k (map pause_of ms) ms
-  all_paused k [] [] h f = tt
-  all_paused k [] (m ∷ ms) h f =
-      (paused_by k 0 m h.0 (λ o. subst (HadNoAnswer d) (here k) (f 0 m refl o)), all_paused (suc k) [] ms h.1 (rest_answers k m ms f))
-  all_paused k (l ∷ ls) [] h f = absurd h
-  all_paused k (l ∷ ls) (m ∷ ms) h f =
-      (paused_by k l.waits m h.0 (λ o. subst (HadNoAnswer d) (here k) (f 0 m refl o)), all_paused (suc k) ls ms h.1 (rest_answers k m ms f))
+  all_paused : (k : ℕ) (ms : List ClientTold) → AllRows (row_of d) ms → HaveNone k ms → WerePaused false d k (map pause_of ms) ms
+  all_paused k [] h f = tt
+  all_paused k (m ∷ ms) h f =
+      (paused_by k m h.0 (λ o. subst (HadNoAnswer d) (here k) (f 0 m refl o)), all_paused (suc k) ms h.1 (rest_answers k m ms f))
 
-  all_owe : (k : ℕ) (ms : List ClientTold) → all_owing ms ≡ true → HaveNone k ms → WerePaused d k (map pause_of ms) ms
+  all_owe : (k : ℕ) (ms : List ClientTold) → all_owing ms ≡ true → HaveNone k ms → WerePaused false d k (map pause_of ms) ms
   all_owe k [] e f = tt
   all_owe k (m ∷ ms) e f =
       let both = and_parts (owes m || not (is_open m)) (all_owing ms) e in
@@ -310,31 +264,54 @@ module _ (IsMade : WireTold → Type 0) (parts : ProgramParts) (leads : List Lea
   answers : HaveNone 0 links
   answers i link is o = subst (HadNoAnswer d) (sym (from_zero i)) (owes-unanswered i link is o)
 
-  pub paused-all : (before : List ClientTold) → HavePaused before links → WerePaused d 0 (map pause_of links) links
-  paused-all before h = all_paused 0 before links h answers
+  pub paused-all : AllRows (row_of d) links → WerePaused false d 0 (map pause_of links) links
+  paused-all h = all_paused 0 links h answers
 
-  pub owing-all : all_owing links ≡ true → WerePaused d 0 (map pause_of links) links
+  pub owing-all : all_owing links ≡ true → WerePaused false d 0 (map pause_of links) links
   owing-all e = all_owe 0 links e answers
 
-  -- as many waited for an answer as owe one, at most
-  paused_few : (k : ℕ) (ps : List Pause) (ls : List ClientTold) → ((i : ℕ) (link : ClientTold) → slice_get ls i ≡ Some link → HadNoAnswer d (k + i) → owes link ≡ true)
-      → WerePaused d k ps ls → count_by is_for_answer ps ≤ count_by owes ls
-  paused_few k [] [] f w = let none : count_by owes [] ≡ 0 = refl in let none' : count_by is_for_answer [] ≡ 0 = refl in omega arith
-  paused_few k [] (l ∷ ls) f w = absurd w
-  paused_few k (p ∷ ps) [] f w = absurd w
-  paused_few k (p ∷ ps) (l ∷ ls) f w =
-      let x = count_cons is_for_answer p ps in
-      let y = count_cons owes l ls in
-      let one = at_one p w.0 in
-      let rest = paused_few (suc k) ps ls (λ i link is n. f (suc i) link is (subst (HadNoAnswer d) (further k i) n)) w.1 in
-      omega arith
-    where
-      at_one : (p : Pause) → WasPaused d k p l → one_if (is_for_answer p) ≤ one_if (owes l)
-      at_one for_answer n =
-          let one : one_if (owes l) ≡ 1 = ap one_if (f 0 l refl (subst (HadNoAnswer d) (sym (here k)) n)) in
-          omega arith
-      at_one for_wire o = omega arith
-      at_one at_end o = omega arith
+  -- ---- how those stand that paused
 
-  pub paused-few : (ps : List Pause) → WerePaused d 0 ps links → count_by is_for_answer ps ≤ count_by owes links
-  paused-few ps w = paused_few 0 ps links (λ i link is n. unanswered-owes i link is (subst (HadNoAnswer d) (from_zero i) n)) w
+  abbrev Owe : ℕ → List ClientTold → Type 0
+  Owe k ls = (i : ℕ) (link : ClientTold) → slice_get ls i ≡ Some link → HadNoAnswer d (k + i) → owes link ≡ true
+
+  owing_first : (k : ℕ) (l : ClientTold) (ls : List ClientTold) → Owe k (l ∷ ls) → HadNoAnswer d k → owes l ≡ true
+  owing_first k l ls f n = f 0 l refl (subst (HadNoAnswer d) (sym (here k)) n)
+
+  owing_rest : (k : ℕ) (l : ClientTold) (ls : List ClientTold) → Owe k (l ∷ ls) → Owe (suc k) ls
+  owing_rest k l ls f i link is n = f (suc i) link is (subst (HadNoAnswer d) (further k i) n)
+
+  paused_open : (k : ℕ) (ps : List Pause) (ls : List ClientTold) → Owe k ls → WerePaused false d k ps ls → count_by is_unended ps ≡ count_by is_open ls
+  paused_open k [] [] f w = refl
+  paused_open k [] (l ∷ ls) f w = absurd w
+  paused_open k (p ∷ ps) [] f w = absurd w
+  paused_open k (p ∷ ps) (l ∷ ls) f w =
+      count_cons is_unended p ps ∙ ap₂ (λ (b : Bool) (n : ℕ). one_if b + n) (at_one p w.0) (paused_open (suc k) ps ls (owing_rest k l ls f) w.1)
+      ∙ sym (count_cons is_open l ls)
+    where
+      at_one : (p : Pause) → WasPaused false d k p l → is_unended p ≡ is_open l
+      at_one for_answer n = sym (owes_open (stage_at l) (owing_first k l ls f n))
+      at_one for_wire h = sym (h.0 refl)
+      at_one for_room h = absurd (true≢false (sym h.0))
+      at_one at_end over = sym (over_closed (stage_at l) over is_open_at refl refl refl refl)
+
+  paused_rows : (k : ℕ) (ps : List Pause) (ls : List ClientTold) → Owe k ls → WerePaused false d k ps ls → AllRows (row_of d) ls
+  paused_rows k [] [] f w = tt
+  paused_rows k [] (l ∷ ls) f w = absurd w
+  paused_rows k (p ∷ ps) [] f w = absurd w
+  paused_rows k (p ∷ ps) (l ∷ ls) f w = (at_one p w.0, paused_rows (suc k) ps ls (owing_rest k l ls f) w.1)
+    where
+      at_one : (p : Pause) → WasPaused false d k p l → HasRow (row_of d) l
+      at_one for_answer n = inl (owing_first k l ls f n)
+      at_one for_wire h = inr (inr h.1)
+      at_one for_room h = absurd (true≢false (sym h.0))
+      at_one at_end over = inr (inl (over_closed (stage_at l) over is_open_at refl refl refl refl))
+
+  all_of : Owe 0 links
+  all_of i link is n = unanswered-owes i link is (subst (HadNoAnswer d) (from_zero i) n)
+
+  pub paused-open : (ps : List Pause) → WerePaused false d 0 ps links → count_by is_unended ps ≡ count_by is_open links
+  paused-open ps w = paused_open 0 ps links all_of w
+
+  pub paused-rows : (ps : List Pause) → WerePaused false d 0 ps links → AllRows (row_of d) links
+  paused-rows ps w = paused_rows 0 ps links all_of w

@@ -75,6 +75,8 @@ pub record HasTold (parts : ProgramParts) (told : Told) (before now : ClientTold
   pub paid : now.pending ≡ None
   pub service : now.service ≡ before.service
   pub waits : now.waits ≡ before.waits
+  pub row : now.in_a_row ≡ before.in_a_row
+  pub longest : now.longest ≡ before.longest
 
 -- The connection of a place was told so, and all else stays.
 pub record HasAnswered (parts : ProgramParts) (told : Told) (before now : Keeping) : Type 0 where

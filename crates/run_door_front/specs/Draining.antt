@@ -1,5 +1,5 @@
 -- How what is due is written before the connections come back.
-use Rattle.std.specs.Prelude.{◌≡◌, ◌≢◌, ◌⊎◌, ◌≤◌, ◌<◌, Bool, true, false, List, [], ◌∷◌, length}
+use Rattle.std.specs.Prelude.{◌≡◌, ◌≢◌, ◌⊎◌, ℕ, ◌-◌, ◌^◌, ◌≤◌, ◌<◌, Bool, true, false, List, [], ◌∷◌, length}
 use Rattle.std.specs.List.{list_any}
 use Rattle.outside_doors.specs.Counts.{added}
 use Rattle.conn_future.specs.declared.stage.Stage.{Stage}
@@ -7,6 +7,7 @@ use Rattle.conn_future.specs.declared.stage.Stage.TheVariants as Stages
 use Rattle.run_theorem.specs.Lines.{most_waits}
 use Rattle.run_door_front.specs.Keeping.{ListenerTold, ClientTold, stage_at, rests_at}
 use Rattle.run_door_front.specs.NextSteps.{HasNotFallen, ClientGoesOn, ClientsGoOn}
+use Rattle.run_door_front.specs.Moving.{has_moved}
 
 -- a text goes out at this stage
 abbrev pub writes_at : Stage → Bool
@@ -22,11 +23,12 @@ abbrev pub any_writing : List ClientTold → Bool
 any_writing links = list_any is_writing links
 
 -- A connection went on with the text that goes out, if one does; where one still does, its wire could move nothing yet
--- once more.
+-- once more, and where no bytes moved, once more in a row.
 pub record WritesOn (before now : ClientTold) : Type 0 where
   pub goes : ClientGoesOn before now
   pub wrote : is_writing now ≡ true → is_writing before ≡ true
   pub waits : is_writing now ≡ true → added before.waits 1 ≤ now.waits
+  pub row : is_writing now ≡ true → has_moved before now ≡ false → added before.in_a_row 1 ≤ now.in_a_row
 
 -- each of them did
 abbrev pub AreWritten : List ClientTold → List ClientTold → Type 0
@@ -35,32 +37,37 @@ AreWritten [] (m ∷ ms) = ⊥
 AreWritten (l ∷ ls) [] = ⊥
 AreWritten (l ∷ ls) (m ∷ ms) = WritesOn l m × AreWritten ls ms
 
--- No text goes out on a connection any more, or its wire could move nothing as often as a run looks in a row, since it
--- stood like this.
-abbrev pub has_drained : ClientTold → ClientTold → Type 0
-has_drained before now = (stage_at now ≢ Stages.Writes) ⊎ (added before.waits most_waits ≤ now.waits)
+-- No text goes out on a connection any more, or the last that its wire answered is, as often in a row as a run looks,
+-- that it can move nothing yet.
+abbrev pub has_drained : ClientTold → Type 0
+has_drained now = (stage_at now ≢ Stages.Writes) ⊎ (most_waits ≤ now.in_a_row)
 
 -- the same of each
-abbrev pub HaveDrained : List ClientTold → List ClientTold → Type 0
-HaveDrained [] [] = Unit {0}
-HaveDrained [] (m ∷ ms) = ⊥
-HaveDrained (l ∷ ls) [] = ⊥
-HaveDrained (l ∷ ls) (m ∷ ms) = has_drained l m × HaveDrained ls ms
+abbrev pub HaveDrained : List ClientTold → Type 0
+HaveDrained [] = Unit {0}
+HaveDrained (m ∷ ms) = has_drained m × HaveDrained ms
 
 -- doors were rested at, and nothing else was done at them
 abbrev pub AreRested : List ListenerTold → List ListenerTold → Type 0
 AreRested [] [] = Unit {0}
 AreRested [] (q ∷ qs) = ⊥
 AreRested (p ∷ ps) [] = ⊥
-AreRested (p ∷ ps) (q ∷ qs) = (q ≡ record p { door = record p.door { rests = q.door.rests } })
-    × HasNotFallen p.door.rests q.door.rests × AreRested ps qs
+AreRested (p ∷ ps) (q ∷ qs) =
+    (q ≡ record p { door = record p.door { rests = q.door.rests; rests_in_a_row = q.door.rests_in_a_row } })
+    × HasNotFallen p.door.rests q.door.rests × HasNotFallen p.door.rests_in_a_row q.door.rests_in_a_row
+    × AreRested ps qs
 
--- Connections went on until what was due was written. Where a text still goes out on one there was a rest, if there is
--- a door, as often as a run looks in a row. Where the front halted nothing was done.
+-- the most rests of one drain
+abbrev pub most_rests : ℕ
+most_rests = 2 ^ 64 - 1
+
+-- Connections went on until what was due was written, or until as often in a row as a run looks nothing moved on any of
+-- them on which a text goes out; or, if there is a door, until there had been the most rests. Where a text still goes out
+-- there was a rest as often as a run looks, if there is a door. Where the front halted nothing was done.
 pub record Drains (halted : Bool) (first later : List ListenerTold) (before now : List ClientTold) : Type 0 where
   pub doors : AreRested first later
   pub connections : ClientsGoOn before now
-  pub drained : halted ≡ false → HaveDrained before now
+  pub drained : halted ≡ false → HaveDrained now ⊎ (0 < length first → most_rests ≤ rests_at later)
   pub rests : halted ≡ false → any_writing now ≡ true → 0 < length first
       → added (rests_at first) most_waits ≤ rests_at later
   pub undone : halted ≡ true → (later ≡ first) × (now ≡ before)

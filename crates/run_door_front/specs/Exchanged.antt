@@ -1,6 +1,6 @@
 -- What passed between a front over doors and its run.
-use Rattle.std.specs.Prelude.{◌≡◌, ◌≢◌, ◌⊎◌, ℕ, suc, ◌+◌, ◌-◌, ◌^◌, ◌<◌, ◌≤◌, min, true, false, List, [], ◌∷◌}
-use Rattle.std.specs.Prelude.{length, map, take, nat_eq, nat_lt, count_by, Option, None, Some, Contains, slice_get}
+use Rattle.std.specs.Prelude.{◌≡◌, ◌≢◌, ◌⊎◌, ℕ, suc, ◌-◌, ◌^◌, ◌<◌, ◌≤◌, ◌||◌, min, Bool, true, false, List, [], ◌∷◌}
+use Rattle.std.specs.Prelude.{length, map, take, nat_eq, nat_le, nat_lt, count_by, Option, None, Some, Contains, slice_get}
 use Rattle.std.specs.List.{list_all, list_any, sum_by}
 use Rattle.std.specs.Io.KnownBytes.{Appends}
 use Rattle.outside_traits.specs.Causes.{Rose}
@@ -13,7 +13,8 @@ use Rattle.run_theorem.specs.Lines.{IsPrefix, IsProperPrefix}
 use Rattle.jsonrpc_postings.specs.Told.{response_told}
 use Rattle.run_theorem.specs.RunConnections.{RunConnection, came_at, AreTaken}
 use Rattle.run_theorem.specs.Served.{Requests}
-pub use Rattle.run_theorem.specs.Through.{most_open, Pause, for_answer, for_wire, at_end, is_for_answer, is_for_wire}
+pub use Rattle.run_theorem.specs.Through.{most_open, Pause, for_answer, for_wire, for_room, at_end}
+pub use Rattle.run_theorem.specs.Through.{is_for_wire, is_unended}
 pub use Rattle.run_theorem.specs.Used.{IsNewLine}
 use Rattle.conn_future.specs.declared.stage.Stage.{Stage}
 use Rattle.conn_future.specs.declared.stage.Stage.TheVariants as Stages
@@ -22,7 +23,7 @@ use Rattle.conn_future.specs.Talking.{IsTalking}
 use Rattle.outside_traits.specs.Told.{WireTold}
 use Rattle.run_door_front.specs.declared.link.PendingReply.{PendingReply}
 use Rattle.run_door_front.specs.Keeping.{ListenerTold, ClientTold, Keeping, services_of, places_of, leads_of, is_led}
-use Rattle.run_door_front.specs.Keeping.{rests_at, no_more, AreLed}
+use Rattle.run_door_front.specs.Keeping.{rests_at, rests_in_a_row_at, is_quiet, is_open, no_more, AreLed}
 
 -- the two sides of a front over doors: what it keeps, and the sink of its notes
 pub record Sides : Type 0 where
@@ -48,6 +49,7 @@ pub record IsClient (IsMade : WireTold → Type 0) (link : ClientTold) (connecti
   pub stage : connection.stage ≡ stage_of link.seen.kept.next
   pub memory : connection.stage ≢ Stages.Spent
   pub owes : OwesAt link.pending connection.stage
+  pub row : link.in_a_row ≤ link.longest
   pub first : WireTold
   pub made : IsMade first
   pub fresh : IsNewLine first
@@ -124,36 +126,40 @@ pub record HadNoAnswer (d : Exchange) (k : ℕ) : Type 0 where
   pub last : suc asked.request ≡ count_by (is_of k) d.received.asked
   pub untold : list_any (λ (t : Told). nat_eq place t.place) (take d.received.seen d.sent.told) ≡ false
 
--- When the front was asked last, connection k paused so: its last request had no answer, its wire has answered once, at
--- some time, that it can move nothing yet, or it is over.
-abbrev pub WasPaused : Exchange → ℕ → Pause → ClientTold → Type 0
-WasPaused d k for_answer link = HadNoAnswer d k
-WasPaused d k for_wire link = 0 < link.waits
-WasPaused d k at_end link = IsOver (stage_of link.seen.kept.next)
+-- how often in a row the front found nothing, as far as it is counted
+abbrev pub row_of : Exchange → ℕ
+row_of d = min d.received.waits (2 ^ 64 - 1)
+
+-- When the front was asked last, connection k paused so: its last request had no answer; the last that its wire had
+-- answered was, as often in a row as the front found nothing, that it can move nothing yet; or it was over. Where what is
+-- due was written since, its wire may have answered so as often in a row before it moved something.
+abbrev pub WasPaused : Bool → Exchange → ℕ → Pause → ClientTold → Type 0
+WasPaused drained d k for_answer link = HadNoAnswer d k
+WasPaused drained d k for_wire link = (drained ≡ false → is_open link ≡ true) × (row_of d ≤ link.in_a_row)
+WasPaused drained d k for_room link = (drained ≡ true) × (row_of d ≤ link.longest)
+WasPaused drained d k at_end link = IsOver (stage_of link.seen.kept.next)
 
 -- the same of each connection, the first of which has the number k
-abbrev pub WerePaused : Exchange → ℕ → List Pause → List ClientTold → Type 0
-WerePaused d k [] [] = Unit {0}
-WerePaused d k [] (l ∷ ls) = ⊥
-WerePaused d k (p ∷ ps) [] = ⊥
-WerePaused d k (p ∷ ps) (l ∷ ls) = WasPaused d k p l × WerePaused d (suc k) ps ls
+abbrev pub WerePaused : Bool → Exchange → ℕ → List Pause → List ClientTold → Type 0
+WerePaused drained d k [] [] = Unit {0}
+WerePaused drained d k [] (l ∷ ls) = ⊥
+WerePaused drained d k (p ∷ ps) [] = ⊥
+WerePaused drained d k (p ∷ ps) (l ∷ ls) = WasPaused drained d k p l × WerePaused drained d (suc k) ps ls
 
--- how often doors answered that nobody has come yet, and wires that they can move nothing yet, in all
-abbrev pub waits_at : List ListenerTold → List ClientTold → ℕ
-waits_at doors connections =
-    sum_by (λ (p : ListenerTold). p.door.waits) doors + sum_by (λ (link : ClientTold). link.waits) connections
+-- nobody was let in: as many were accepted as may be, or as many were open as may be at once
+abbrev pub is_full : Keeping → List Pause → Bool
+is_full kept pauses = nat_le kept.most (length kept.connections) || nat_le most_open (count_by is_unended pauses)
 
--- The front had no posting: each connection waited for an answer, had a wire that could move nothing yet, or was over.
--- No connection can come any more, and each waited for an answer or was over; or at least as often as there was none
--- in a row was rested, at all doors, and so many as may be open waited for an answer, or doors and wires answered as
--- often, in all, that nobody has come and nothing moves yet.
-pub record HadNone (kept : Keeping) (d : Exchange) : Type 0 where
+-- The front had no posting: each connection waited for an answer, had a wire that could move nothing, or was over. Where
+-- it ended no connection can come any more, and each waited for an answer or was over. As often in a row as it found
+-- nothing there was a rest, at each door since somebody came there last, and nobody came at any door in as many tries in
+-- a row, unless nobody was let in.
+pub record HadNone (drained : Bool) (kept : Keeping) (d : Exchange) : Type 0 where
   pub pauses : List Pause
-  pub each : WerePaused d 0 pauses kept.connections
+  pub each : WerePaused drained d 0 pauses kept.connections
   pub over : d.received.ended ≡ true → (no_more kept ≡ true) × (list_any is_for_wire pauses ≡ false)
-  pub waited : d.received.ended ≡ false → (most_open ≤ count_by is_for_answer pauses)
-      ⊎ (min d.received.waits (2 ^ 64 - 1) ≤ waits_at kept.doors kept.connections)
-  pub rested : d.received.ended ≡ false → min d.received.waits (2 ^ 64 - 1) ≤ rests_at kept.doors
+  pub rested : row_of d ≤ rests_in_a_row_at kept.doors
+  pub quiet : (is_full kept pauses ≡ true) ⊎ (list_all (is_quiet (row_of d)) kept.doors ≡ true)
 
 -- the front had no posting when it was asked last
 abbrev pub GaveNone : Exchange → Type 0
@@ -196,7 +202,13 @@ pub record HasExchanged (IsMade : WireTold → Type 0) (parts : ProgramParts) (f
   pub left : d.received.left ≡ None
   pub faults : d.received.faults ≡ 0
   pub seen : d.received.seen ≤ length d.sent.told
-  pub none : d.sent.halted ≡ false → GaveNone d → HadNone now.kept d ⊎ (most_postings ≤ length d.received.given)
+  -- at each look at which something moved there was a rest
+  pub moved : min d.received.moves (2 ^ 64 - 1) ≤ rests_at now.kept.doors
+
+-- Where the front had no posting each connection paused, or there were the most postings.
+abbrev pub PausedSo : Bool → Keeping → Exchange → Type 0
+PausedSo drained kept d = d.sent.halted ≡ false → GaveNone d
+    → HadNone drained kept d ⊎ (most_postings ≤ length d.received.given)
 
 -- Memory ran out in a call: it is known only whether the front halted. What its calls answered is not known then, not
 -- even that it was want of memory.
@@ -205,4 +217,5 @@ HasRunOut kept d = (kept.spent ≡ true) × (d.sent.halted ≡ kept.halted)
 
 -- The same, unless memory ran out in a call.
 abbrev pub MayHaveExchanged : (WireTold → Type 0) → ProgramParts → Sides → Sides → Exchange → Type 0
-MayHaveExchanged IsMade parts first now d = HasRunOut now.kept d ⊎ HasExchanged IsMade parts first now d
+MayHaveExchanged IsMade parts first now d =
+    HasRunOut now.kept d ⊎ (HasExchanged IsMade parts first now d × PausedSo false now.kept d)

@@ -17,17 +17,20 @@ pub record ListenerTold : Type 0 where
   pub service : ℕ
   pub door : DoorTold
 
--- A connection, the service of its door, how often its wire has answered that it can move nothing yet, and the request
--- that is pending an answer, where one is.
+-- A connection, the service of its door, how often its wire has answered that it can move nothing yet, how often in a row
+-- up to now and in its longest row, and the request that is pending an answer, where one is.
 pub record ClientTold : Type 0 where
   pub service : ℕ
   pub seen : Seen
   pub waits : ℕ
+  pub in_a_row : ℕ
+  pub longest : ℕ
   pub pending : Option PendingReply
 
 -- what the wire of a connection tells
 abbrev pub told_of_wire : ClientTold → PollTold
-told_of_wire link = record { wire = link.seen.line; waits = link.waits }
+told_of_wire link =
+    record { wire = link.seen.line; waits = link.waits; in_a_row = link.in_a_row; longest = link.longest }
 
 -- What a front over doors keeps: the doors in the order of the text; the connections in the order in which they were
 -- accepted, which are called by their numbers in it; those that are open, and those whose request is whole and was not
@@ -152,6 +155,14 @@ leads_of k = map lead_of k.doors
 -- how often was rested, at all doors
 abbrev pub rests_at : List ListenerTold → ℕ
 rests_at doors = sum_by (λ (p : ListenerTold). p.door.rests) doors
+
+-- how often was rested at all doors, at each since somebody came there last
+abbrev pub rests_in_a_row_at : List ListenerTold → ℕ
+rests_in_a_row_at doors = sum_by (λ (p : ListenerTold). p.door.rests_in_a_row) doors
+
+-- a door has ended, or the last that it answered is, so often in a row, that nobody has come yet
+abbrev pub is_quiet : ℕ → ListenerTold → Bool
+is_quiet often port = has_ended port.door || nat_le often port.door.waits_in_a_row
 
 -- no connection can come any more: as many were accepted as may be, or each door has ended
 abbrev pub closed_off : ℕ → List ListenerTold → List ClientTold → Bool

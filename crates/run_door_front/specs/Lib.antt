@@ -1,6 +1,7 @@
 pub mod Keeping
 pub mod Exchanged
 pub mod AnswerSteps
+pub mod Moving
 pub mod NextSteps
 pub mod Draining
 pub mod Rounds

@@ -18,7 +18,8 @@ use Rattle.conn_future.specs.Talking.{IsTalking, TalksOn}
 use Rattle.outside_traits.specs.Told.{WireTold}
 use Rattle.run_door_front.specs.Keeping.{ListenerTold, ClientTold, Keeping, Lead, lead_of, is_led, rests_at, wires_to}
 use Rattle.run_door_front.specs.Keeping.{leads_to, AreLed, stage_at, is_open, asks, owes, asks_there, IsOrdered}
-use Rattle.run_door_front.specs.Keeping.{closed_off}
+use Rattle.run_door_front.specs.Keeping.{closed_off, rests_in_a_row_at}
+use Rattle.run_door_front.specs.Moving.{any_moved}
 use Rattle.run_door_front.specs.Exchanged.{IsNewLine, most_open}
 
 -- ---- doors
@@ -27,19 +28,29 @@ use Rattle.run_door_front.specs.Exchanged.{IsNewLine, most_open}
 abbrev pub HasNotFallen : ℕ → ℕ → Type 0
 HasNotFallen before now = min before (2 ^ 64 - 1) ≤ now
 
--- A door goes on: its service and its place stay, an end stays, and its waits and rests do not fall. At one that has
--- ended nothing is done but to rest.
+-- nobody came at a door, as far as it counts the wires that it gave
+abbrev pub NobodyCame : ListenerTold → ListenerTold → Type 0
+NobodyCame before now = (now.door.wires ≡ before.door.wires) × (before.door.wires < 2 ^ 64 - 1)
+
+-- A door goes on: its service and its place stay, an end stays, and its wires, waits and rests do not fall; where nobody
+-- came, nor do its waits and rests in a row. At one that has ended nothing is done but to rest.
 pub record GoesOn (before now : ListenerTold) : Type 0 where
   pub service : now.service ≡ before.service
   pub place : now.door.place ≡ before.door.place
   pub ended : has_ended before.door ≡ true → has_ended now.door ≡ true
-  pub untried : has_ended before.door ≡ true → now.door ≡ record before.door { rests = now.door.rests }
+  pub untried : has_ended before.door ≡ true
+      → now.door ≡ record before.door { rests = now.door.rests; rests_in_a_row = now.door.rests_in_a_row }
+  pub wires : HasNotFallen before.door.wires now.door.wires
   pub waits : HasNotFallen before.door.waits now.door.waits
   pub rests : HasNotFallen before.door.rests now.door.rests
+  pub row : NobodyCame before now → HasNotFallen before.door.waits_in_a_row now.door.waits_in_a_row
+  pub rests_row : NobodyCame before now → HasNotFallen before.door.rests_in_a_row now.door.rests_in_a_row
 
--- nobody comes at a door: it has ended, or it answered once more that nobody has come yet
+-- nobody comes at a door: it has ended, or it answered once more that nobody has come yet, and where nobody came, once
+-- more in a row
 abbrev pub IsTried : ListenerTold → ListenerTold → Type 0
-IsTried before now = (has_ended now.door ≡ true) ⊎ (added before.door.waits 1 ≤ now.door.waits)
+IsTried before now = (has_ended now.door ≡ true) ⊎ ((added before.door.waits 1 ≤ now.door.waits)
+    × (NobodyCame before now → added before.door.waits_in_a_row 1 ≤ now.door.waits_in_a_row))
 
 -- each door goes on
 abbrev pub AllGoOn : List ListenerTold → List ListenerTold → Type 0
@@ -54,6 +65,18 @@ AreTried [] [] = Unit {0}
 AreTried [] (q ∷ qs) = ⊥
 AreTried (p ∷ ps) [] = ⊥
 AreTried (p ∷ ps) (q ∷ qs) = IsTried p q × AreTried ps qs
+
+-- a door has ended, or it answered once more in a row that nobody has come yet
+abbrev pub IsTriedInARow : ListenerTold → ListenerTold → Type 0
+IsTriedInARow before now =
+    (has_ended now.door ≡ true) ⊎ (added before.door.waits_in_a_row 1 ≤ now.door.waits_in_a_row)
+
+-- the same of each
+abbrev pub AreTriedInARow : List ListenerTold → List ListenerTold → Type 0
+AreTriedInARow [] [] = Unit {0}
+AreTriedInARow [] (q ∷ qs) = ⊥
+AreTriedInARow (p ∷ ps) [] = ⊥
+AreTriedInARow (p ∷ ps) (q ∷ qs) = IsTriedInARow p q × AreTriedInARow ps qs
 
 -- how many wires a door gave
 abbrev pub wires_of : ListenerTold → ℕ
@@ -100,6 +123,7 @@ pub record IsNewClient (IsMade : WireTold → Type 0) (link : ClientTold) : Type
   pub pending : link.pending ≡ None
   pub unowed : stage_at link ≢ Stages.Owes
   pub memory : stage_at link ≢ Stages.Spent
+  pub row : link.in_a_row ≤ link.longest
   pub first : WireTold
   pub made : IsMade first
   pub fresh : IsNewLine first
@@ -148,6 +172,8 @@ pub record ClientGoesOn (before now : ClientTold) : Type 0 where
   pub unowed : stage_at now ≡ Stages.Owes → stage_at before ≡ Stages.Owes
   pub memory : stage_at now ≡ Stages.Spent → stage_at before ≡ Stages.Spent
   pub waits : HasNotFallen before.waits now.waits
+  pub longest : HasNotFallen before.longest now.longest
+  pub row : before.in_a_row ≤ before.longest → now.in_a_row ≤ now.longest
   pub talks : TalksOn before.seen now.seen
 
 -- connections go on, and new ones came, at these doors
@@ -282,6 +308,8 @@ pub record IsAsked (place : ℕ) (body : List ℕ) (before now : ClientTold) : T
   pub pending : now.pending ≡ Some (record { place = place; read = posted body })
   pub stage : stage_at now ≡ Stages.Owes
   pub waits : now.waits ≡ before.waits
+  pub row : now.in_a_row ≡ before.in_a_row
+  pub longest : now.longest ≡ before.longest
   pub talks : (first : WireTold) (bodies : List (List ℕ)) (texts : List (Option (List ℕ)))
       → IsTalking first before.seen bodies texts → IsTalking first now.seen (bodies ++ body ∷ []) texts
 
@@ -408,10 +436,43 @@ pub record HasRested (before now : List ListenerTold) : Type 0 where
   pub rested : now ≡ after_rest mid
   pub goes : AllGoOn before mid
 
--- What the call came to: the posting of the request that stands first in the queue, nothing yet, or nothing any more.
+-- A connection waits for an answer, it is over, or its wire could move nothing yet once more in a row.
+abbrev pub HasPausedInARow : ClientTold → ClientTold → Type 0
+HasPausedInARow before now =
+    (stage_at now ≡ Stages.Owes) ⊎ (IsOver (stage_at now) ⊎ (added before.in_a_row 1 ≤ now.in_a_row))
+
+-- the same of each
+abbrev pub HavePausedInARow : List ClientTold → List ClientTold → Type 0
+HavePausedInARow [] [] = Unit {0}
+HavePausedInARow [] (m ∷ ms) = ⊥
+HavePausedInARow (l ∷ ls) [] = ⊥
+HavePausedInARow (l ∷ ls) (m ∷ ms) = HasPausedInARow l m × HavePausedInARow ls ms
+
+-- Nobody came or went, and nothing moved, so that nothing came of any connection, once more in a row. Where there were as
+-- many wires as connections nobody came at any door, once more in a row, unless there was no more room, and there was a
+-- rest, once more in a row.
+pub record IsStill (most : ℕ) (before now : Going) : Type 0 where
+  pub as_many : length now.connections ≡ length before.connections
+  pub as_open : count_by is_open now.connections ≡ count_by is_open before.connections
+  pub unmoved : any_moved before.connections now.connections ≡ false
+  pub paused : HavePausedInARow before.connections now.connections
+  pub tried : sum_by wires_of before.doors ≡ length before.connections
+      → (has_room most (length now.connections) (count_by is_open now.connections) ≡ false)
+      ⊎ AreTriedInARow before.doors now.doors
+  pub rests : sum_by wires_of before.doors ≡ length before.connections
+      → added (rests_in_a_row_at before.doors) 1 ≤ rests_in_a_row_at now.doors
+
+-- They went on without a posting, which may still come, and there was a rest.
+pub record Stays (IsMade : WireTold → Type 0) (most : ℕ) (before now : Going) : Type 0 where
+  pub rests : Rests IsMade most before now
+  pub rested : HasRested before.doors now.doors
+  pub more : sum_by wires_of before.doors ≡ length before.connections → added (rests_at before.doors) 1 ≤ rests_at now.doors
+
+-- What the call came to: the posting of the request that stands first in the queue, none yet while something moved or
+-- nothing did, or nothing any more.
 abbrev pub Looks : (WireTold → Type 0) → ℕ → Next → Going → Going → Type 0
 Looks IsMade most (next.Posting p) before now = Posts IsMade most p before now
-Looks IsMade most next.NotYet before now = Rests IsMade most before now × HasRested before.doors now.doors
-    × (sum_by wires_of before.doors ≡ length before.connections → added (rests_at before.doors) 1 ≤ rests_at now.doors)
+Looks IsMade most next.Moved before now = Stays IsMade most before now
+Looks IsMade most next.NotYet before now = Stays IsMade most before now × IsStill most before now
 Looks IsMade most next.End before now =
     ((most_postings ≤ length before.traffics) × (now ≡ before)) ⊎ Ends IsMade most before now

@@ -127,6 +127,7 @@ impl<W: PollWire + Drop> Client<W> {
     fn new(alloc: Global, service: u32, wire: W) -> Client<W>
         ensures service { result.service ≡ service }
         ensures pending { result.pending ≡ None }
+        ensures row { result.in_a_row ≡ (W.told wire).in_a_row }
         ensures stage { stage_of result.seen.kept.next ≡ Stages.Reads }
         ensures talks { IsTalking (W.told wire).wire result.seen [] [] }
     {

@@ -37,6 +37,8 @@ impl<W: PollWire + Drop> Model for Client<W> {
       service = l.service;
       seen = seen l.task.kept (W.told l.task.wire);
       waits = (W.told l.task.wire).waits;
+      in_a_row = (W.told l.task.wire).in_a_row;
+      longest = (W.told l.task.wire).longest;
       pending = l.pending;
     } };
 }

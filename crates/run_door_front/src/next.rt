@@ -55,8 +55,8 @@ impl<D: Door + Drop> Kept<D> {
     }
 }
 
-/// Takes in who comes and polls all open connections, until a request is whole or nothing comes any more, or until, for
-/// the time being, nothing moves.
+/// Takes in who comes and polls all open connections, until a request is whole or nothing comes any more, or until
+/// nobody came or went; then it rests once.
 fn look<D: Door + Drop>(
     alloc: Global,
     doors: &mut [Listener<D>],
@@ -77,7 +77,7 @@ fn look<D: Door + Drop>(
     if MOST_POSTINGS <= traffics.len() {
         return Ok(Next::End);
     }
-    let mut left = u64::MAX;
+    let mut changed = false;
     loop {
         let known = connections.len();
         accept_all(alloc, doors, connections, opened, most)?;
@@ -90,13 +90,14 @@ fn look<D: Door + Drop>(
             return Ok(Next::End);
         }
         if has_changed(known, connections.len(), among, opened.len()) {
+            changed = true;
             continue;
         }
         rest(doors);
-        if !moved || left == 0 {
-            return Ok(Next::NotYet);
+        if changed || moved {
+            return Ok(Next::Moved);
         }
-        left -= 1;
+        return Ok(Next::NotYet);
     }
 }
 

@@ -6,7 +6,8 @@ ghost use Rattle.conn_future.specs.declared.stage.Stage.TheVariants as Stages;
 ghost use Rattle.run_door_front.specs.Keeping.{IsOrdered, asks as asking, asks_there, is_open_there};
 ghost use Rattle.run_door_front.specs.NextSteps.{Answers, Hands, IsPolled, IsPolledAt, Polls, PollsAll, lined};
 ghost use Rattle.run_door_front.specs.NextSteps.{queued, listing};
-ghost use Rattle.run_door_front.specs.Rounds.{read_on, written_on, has_moved, any_moved};
+ghost use Rattle.run_door_front.specs.Moving.{read_on, written_on, has_moved, any_moved, HasWaited, HaveWaited};
+ghost use Rattle.run_door_front.specs.Moving.{HaveWaitedAt};
 
 use crate::link::{Client, PendingReply};
 use conn_future::Stage;
@@ -35,7 +36,8 @@ pub(crate) fn poll_all<W: PollWire + Drop>(
     ensures { IfOk result (λ moved. PollsAll
         (queued connections.old.items opened.old.items queue.old.items)
         (queued connections.new.items opened.new.items queue.new.items)
-        × (moved ≡ any_moved connections.old.items connections.new.items)) }
+        × (moved ≡ any_moved connections.old.items connections.new.items)
+        × HaveWaited connections.old.items connections.new.items) }
 {
     let moved = poll_open(connections, opened.as_slice(), queue)?;
     keep_open(connections, opened);
@@ -59,7 +61,8 @@ fn poll_open<W: PollWire + Drop>(
     ensures { IfOk result (λ moved. Polls opened.now
         (lined connections.old.items queue.old.items)
         (lined connections.new.items queue.new.items)
-        × (moved ≡ any_moved connections.old.items connections.new.items)) }
+        × (moved ≡ any_moved connections.old.items connections.new.items)
+        × HaveWaitedAt opened.now connections.old.items connections.new.items) }
 {
     let mut moved = false;
     for number in opened {
@@ -78,7 +81,7 @@ fn poll_at<W: PollWire + Drop>(
     ensures { IfOk result (λ moved. (at : IsPolledAt number
         (lined connections.old.items queue.old.items)
         (lined connections.new.items queue.new.items))
-        × (moved ≡ has_moved at.link at.later)) }
+        × (moved ≡ has_moved at.link at.later) × HasWaited at.link at.later) }
 {
     let Polled { moved, asks } = connections[number].poll()?;
     if asks {
@@ -126,7 +129,8 @@ impl<W: PollWire + Drop> Client<W> {
     /// Reads and writes as far as the wire goes.
     pub(crate) fn poll(&mut self) -> Result<Polled, AllocError>
         ensures { IfOk result (λ came. IsPolled self.old self.new
-            × (came.asks ≡ (not (asking self.old) && asking self.new)) × (came.moved ≡ has_moved self.old self.new)) }
+            × (came.asks ≡ (not (asking self.old) && asking self.new)) × (came.moved ≡ has_moved self.old self.new)
+            × HasWaited self.old self.new) }
     {
         let asked = self.asks();
         let read = self.task.read().len();

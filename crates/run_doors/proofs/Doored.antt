@@ -1,6 +1,6 @@
 -- A run over doors by what its front and its worker say, and by what was opened and came back.
-use Rattle.std.proofs.Common.{◌≡◌, ◌≤◌, ◌<◌, ◌+◌, ◌-◌, refl, sym, ap, subst, ◌∙◌, ℕ, suc, Bool, true, false, not, ◌||◌, List, [], ◌∷◌, length, map, arith}
-use Rattle.std.proofs.Common.{inl, inr, nat_eq, nat_lt, sum_by, count_by, true≢false}
+use Rattle.std.proofs.Common.{◌≡◌, ◌⊎◌, ◌≤◌, ◌<◌, ◌+◌, ◌-◌, ◌^◌, refl, sym, ap, subst, ◌∙◌, ℕ, suc, Bool, true, false, not, ◌||◌, List, [], ◌∷◌, length, map, arith}
+use Rattle.std.proofs.Common.{inl, inr, ⊎_elim, nat_eq, nat_lt, sum_by, count_by, true≢false}
 use Rattle.std.specs.List.{list_all, list_any, items_where_true}
 use Rattle.std.proofs.lemmas.List.{length-map}
 use Rattle.std.proofs.lemmas.List.Sums.{sum_by-cons}
@@ -27,10 +27,10 @@ use Rattle.run_theorem.specs.Picks.{TookPicks}
 use Rattle.run_alone.proofs.Noting.{front_longer}
 use Rattle.run_theorem.specs.Ports.{DoorAt, doors_of, has_door}
 use Rattle.run_theorem.specs.RunConnections.{RunConnection}
-use Rattle.run_door_front.specs.Keeping.{ListenerTold, ClientTold, Keeping, AreNew, IsEmpty, services_of}
-use Rattle.run_door_front.specs.Exchanged.{Sides, HasExchanged, MayHaveExchanged}
-use Rattle.run_door_front.specs.Draining.{HaveDrained}
-use Rattle.run_door_front.proofs.Closing.{exchanged_later, later as kept_later}
+use Rattle.run_door_front.specs.Keeping.{ListenerTold, ClientTold, Keeping, AreNew, IsEmpty, rests_at, services_of}
+use Rattle.run_door_front.specs.Exchanged.{Sides, HasExchanged, MayHaveExchanged, PausedSo}
+use Rattle.run_door_front.specs.Draining.{AreRested, HaveDrained, most_rests}
+use Rattle.run_door_front.proofs.Closing.{exchanged_later, later as kept_later, paused_later}
 use Rattle.run_theorem.specs.declared.ended.Ended.{Ended}
 use Rattle.run_theorem.specs.Used.{Used, AreInOrder, IsUsed, RoseBy, came_at_door, leads_by, leads_to, wires_to, has_failed, with_wires, with_doors, tries_at}
 use Rattle.run_theorem.specs.Theorem.{Task, Outside, Around, rules_of, HasStatus, AreNoted, RanProgram, IsDoored}
@@ -39,7 +39,7 @@ use Rattle.run_doors.proofs.Lists.{length_map, all_map}
 use Rattle.run_doors.proofs.Leading.{service_at, service_in, place_in, wires_at, leads_at, any_led, leads_as, same_first, same_rest}
 use Rattle.run_doors.proofs.Serving.{served_so, as_many, given_long}
 use Rattle.run_doors.proofs.Wires.{wires_are, written_out}
-use Rattle.run_doors.proofs.Ending.{noted_so, notes_failed_so, through_so}
+use Rattle.run_doors.proofs.Ending.{noted_so, notes_failed_so, rests_by, through_so}
 use Rattle.run_doors.proofs.Telling.{rose_then, rose_some, stood_unfailed}
 use Rattle.run_doors.proofs.Openings.{all_marked, any_marked, all_from}
 use Rattle.run_order_laws.proofs.Lists.{all_weaker}
@@ -134,7 +134,8 @@ module _ {new : Exchange} (IsMade : WireTold → Type 0) (most_accepted : ℕ) (
     (first now : Sides) (begins : first.kept.doors ≡ ports) (most : first.kept.most ≡ most_accepted)
     (d : Exchange) (finished : Finished) (ran : Ran (rules_of t) t.text new d finished) (f : HasExchanged IsMade t.parts first now d)
     (picked : TookPicks (rules_of t) t.picks finished.report)
-    (undrained : List ClientTold) (drained : d.sent.halted ≡ false → HaveDrained undrained now.kept.connections)
+    (drained : d.sent.halted ≡ false → HaveDrained now.kept.connections ⊎ (2 ^ 64 - 1 ≤ rests_at now.kept.doors))
+    (paused : PausedSo true now.kept d)
     (back : GivesBack (map wire_of now.kept.connections) (map door_of now.kept.doors) mid after) where
   -- the history
   abbrev h : List Entry
@@ -286,9 +287,11 @@ module _ {new : Exchange} (IsMade : WireTold → Type 0) (most_accepted : ℕ) (
         led = led_so;
         wires = wires_are IsMade now.kept.connections f.connections f.clients;
       };
-      written = λ running. written_out IsMade undrained now.kept.connections f.connections f.clients (drained running);
+      written = λ running.
+          ⊎_elim (λ out. inl (written_out IsMade now.kept.connections f.connections f.clients out))
+          (λ rests. inr (subst (λ r. 2 ^ 64 - 1 ≤ r) (sym (rests_by now.kept.doors)) rests)) (drained running);
       through = λ running below.
-          through_so IsMade t.parts h first now d f ran.exchanged o.opened most_accepted (f.most ∙ most) running
+          through_so IsMade t.parts h first now d f ran.exchanged o.opened most_accepted (f.most ∙ most) paused running
           (subst (λ n. n < most_postings) came_long below);
     }
 
@@ -314,9 +317,26 @@ doored-as IsMade most t before first now later a b f l i k =
 
 -- memory did not run out
 exchanged_so : (IsMade : WireTold → Type 0) (parts : _) (first now : Sides) (d : Exchange) → now.kept.spent ≡ false
-    → MayHaveExchanged IsMade parts first now d → HasExchanged IsMade parts first now d
+    → MayHaveExchanged IsMade parts first now d → HasExchanged IsMade parts first now d × PausedSo false now.kept d
 exchanged_so IsMade parts first now d unspent (inl out) = absurd (true≢false (sym out.0 ∙ unspent))
 exchanged_so IsMade parts first now d unspent (inr f) = f
+
+-- where there is no connection none has anything left to write
+none_drained : (ms : List ClientTold) → 0 ≡ length ms → HaveDrained ms
+none_drained [] none = tt
+none_drained (m ∷ ms) none = absurd (omega (arith, none))
+
+-- what is due was written, or there were the most rests: where there is no door there is no connection
+drained_so : (ps qs : List ListenerTold) (ms : List ClientTold) → AreRested ps qs
+    → sum_by (λ (p : ListenerTold). p.door.wires) qs ≡ length ms
+    → HaveDrained ms ⊎ (0 < length ps → most_rests ≤ rests_at qs) → HaveDrained ms ⊎ (2 ^ 64 - 1 ≤ rests_at qs)
+drained_so [] [] ms rested came done = inl (none_drained ms came)
+drained_so [] (q ∷ qs) ms rested came done = absurd rested
+drained_so (p ∷ ps) qs ms rested came (inl out) = inl out
+drained_so (p ∷ ps) qs ms rested came (inr more) = inr (more (some (length ps)))
+  where
+    some : (n : ℕ) → 0 < suc n
+    some n = omega arith
 
 -- what came of the doors and of what the front kept
 pub record Ends (failed : Bool) (mid after : DoorsTold) (kept : Keeping) (finished : Finished) (it : Ended) : Type 0 where
@@ -341,19 +361,22 @@ doored_by IsMade most_accepted t before mid after ports failed o first now begin
     let c = ends.closes in
     let then : Sides = record { kept = kept_later IsMade t.parts first now.kept now.notes d c.ports c.connections c.drains.doors c.drains.connections; notes = now.notes } in
     let f : HasExchanged IsMade t.parts first then d =
-    exchanged_later IsMade t.parts first now.kept now.notes d c.ports c.connections c.drains.doors c.drains.connections whole in
-    let halted : now.kept.halted ≡ d.sent.halted = sym whole.sent.halted in
-    let drained : d.sent.halted ≡ false → HaveDrained now.kept.connections c.connections = λ running. c.drains.drained (halted ∙ running) in
+    exchanged_later IsMade t.parts first now.kept now.notes d c.ports c.connections c.drains.doors c.drains.connections whole.0 in
+    let paused : PausedSo true then.kept d =
+    paused_later IsMade t.parts first now.kept now.notes d c.ports c.connections c.drains.doors c.drains.connections whole.0 whole.1 in
+    let halted : now.kept.halted ≡ d.sent.halted = sym whole.0.sent.halted in
+    let drained : d.sent.halted ≡ false → HaveDrained c.connections ⊎ (2 ^ 64 - 1 ≤ rests_at c.ports)
+    = λ running. drained_so now.kept.doors c.ports c.connections c.drains.doors f.came_in (c.drains.drained (halted ∙ running)) in
     let doors =
-    failed_is IsMade most_accepted t before mid after ports failed o first then begins most d finished ran f picked now.kept.connections drained c.gives in
+    failed_is IsMade most_accepted t before mid after ports failed o first then begins most d finished ran f picked drained paused c.gives in
     doored-as IsMade most_accepted t (outside_of source output before first.notes link) former (outside_of source output after now.notes link_now) later
-    (ended IsMade most_accepted t before mid after ports failed o first then begins most d finished ran f picked now.kept.connections drained c.gives) it w l
+    (ended IsMade most_accepted t before mid after ports failed o first then begins most d finished ran f picked drained paused c.gives) it w l
     (ended_by it _ _
     (ends.status
     ∙ ap (λ x. status_of x (failed || ends.back.failed) finished.spent) halted
     ∙ ap (λ x. status_of d.sent.halted x finished.spent) (ap (λ x. failed || x) c.failed ∙ doors))
     (ends.report ∙ ap (with_traffic finished.report) c.traffic))
-    (doored_so IsMade most_accepted t before mid after ports failed o first then begins most d finished ran f picked now.kept.connections drained c.gives
+    (doored_so IsMade most_accepted t before mid after ports failed o first then begins most d finished ran f picked drained paused c.gives
     source output link link_now travelled)
 
 -- ---- the front at the beginning

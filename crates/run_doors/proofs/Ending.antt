@@ -1,7 +1,7 @@
 -- Why a run over doors asked for no posting any more, and what of its notes was written.
 use Rattle.std.proofs.Common.{◌≡◌, ◌<◌, ◌≤◌, ◌+◌, ◌-◌, ◌^◌, min, ℕ, suc, Bool, true, false, ◌||◌, List, [], ◌∷◌, length, map, take}
-use Rattle.std.proofs.Common.{refl, sym, ap, ap₂, subst, ◌∙◌, arith, ◌⊎◌, inl, inr, ⊎_elim, true≢false, nat_eq, nat_le, count_by, slice_get}
-use Rattle.std.specs.List.{list_all, list_any, sum_by}
+use Rattle.std.proofs.Common.{refl, sym, ap, subst, ◌∙◌, arith, ◌⊎◌, inl, inr, ⊎_elim, true≢false, nat_eq, nat_le, count_by, slice_get}
+use Rattle.std.specs.List.{list_all, list_any}
 use Rattle.std.specs.Io.KnownBytes.{Appends}
 use Rattle.std.proofs.lemmas.List.Sums.{sum_by-cons}
 use Rattle.outside_traits.specs.Causes.{Rose}
@@ -14,17 +14,17 @@ use Rattle.run_theorem.specs.Exchange.{Told, Sent, Exchange}
 use Rattle.run_theorem.specs.Calls.{most_postings, is_of}
 use Rattle.run_theorem.specs.Lines.{IsProperPrefix}
 use Rattle.run_theorem.specs.Statuses.{Failed}
-use Rattle.run_alone.specs.Ran.{Exchanged, AreNotes, IsOver, GaveNone, finished_early, most_waits}
+use Rattle.run_alone.specs.Ran.{Exchanged, AreNotes, IsOver, GaveNone, finished_early, most_waits, most_moves}
 use Rattle.run_theorem.specs.RunConnections.{RunConnection}
 use Rattle.outside_traits.specs.Told.{SinkTold, WireTold}
-use Rattle.outside_polling.specs.Polls.{PollTold}
 use Rattle.conn_future.specs.Stages.{IsOver as IsOverAt}
 use Rattle.run_door_front.specs.Keeping.{ListenerTold, ClientTold, Keeping, no_more as no_more_kept, rests_at as rests_kept}
-use Rattle.run_door_front.specs.Exchanged.{Sides, AreClients, HasExchanged, HasNoted, entire, in_part, HadNone, most_open}
-use Rattle.run_door_front.specs.Exchanged.{HadNoAnswer as HadNoneYet, WerePaused as WerePausedThen, Pause, for_answer, for_wire, at_end}
-use Rattle.run_door_front.specs.Exchanged.{is_for_answer, is_for_wire, waits_at}
+use Rattle.run_door_front.specs.Keeping.{rests_in_a_row_at as rows_kept, is_quiet as is_quiet_kept}
+use Rattle.run_door_front.specs.Exchanged.{Sides, AreClients, HasExchanged, HasNoted, entire, in_part, HadNone, PausedSo, row_of, is_full as is_full_kept}
+use Rattle.run_door_front.specs.Exchanged.{HadNoAnswer as HadNoneYet, WerePaused as WerePausedThen}
 use Rattle.run_doors.specs.Steps.{door_of, wire_of}
-use Rattle.run_theorem.specs.Through.{HadNoAnswer, WerePaused, no_more, rests_at, waits_of, IsThrough}
+use Rattle.run_theorem.specs.Through.{HadNoAnswer, WerePaused, Pause, for_answer, for_wire, for_room, at_end, is_for_wire, is_unended, most_open}
+use Rattle.run_theorem.specs.Through.{no_more, is_full, is_quiet, rests_at, rests_in_a_row_at, IsThrough, ended, quiet, most_rests}
 use Rattle.run_theorem.specs.Used.{Used}
 use Rattle.run_theorem.specs.Theorem.{AreNoted}
 use Rattle.run_doors.proofs.Covered.{is_in}
@@ -70,31 +70,36 @@ no_more_is kept connections most is long =
     ∙ ap (λ n. nat_le most n || list_all (λ (p : ListenerTold). has_ended p.door) kept.doors) long
     ∙ ap (λ b. nat_le most (length connections) || b) (sym (all_map has_ended door_of kept.doors))
 
-enough : (n waits : ℕ) → n ≡ most_waits → min n (2 ^ 64 - 1) ≤ waits → most_waits ≤ waits
-enough n waits is h = let least : min most_waits (2 ^ 64 - 1) ≤ waits = subst (λ m. min m (2 ^ 64 - 1) ≤ waits) is h in omega (arith, least)
+-- whether nobody was let in, by the connections
+full_is : (kept : Keeping) (connections : List RunConnection) (pauses : List Pause) (most : ℕ) → kept.most ≡ most
+    → length kept.connections ≡ length connections → is_full_kept kept pauses ≡ is_full most connections pauses
+full_is kept connections pauses most is long =
+    ap (λ m. nat_le m (length kept.connections) || nat_le most_open (count_by is_unended pauses)) is
+    ∙ ap (λ n. nat_le most n || nat_le most_open (count_by is_unended pauses)) long
+
+-- so often in a row as a run looks
+row_is : (n : ℕ) → n ≡ most_waits → min n (2 ^ 64 - 1) ≡ most_waits
+row_is n is = omega (arith, is)
 
 -- how often was rested, by what the doors tell
-rests_by : (ports : List ListenerTold) → rests_at (map door_of ports) ≡ rests_kept ports
+pub rests_by : (ports : List ListenerTold) → rests_at (map door_of ports) ≡ rests_kept ports
 rests_by [] = refl
 rests_by (p ∷ ps) =
     sum_by-cons (λ (door : DoorTold). door.rests) p.door (map door_of ps)
     ∙ ap (λ n. p.door.rests + n) (rests_by ps)
     ∙ sym (sum_by-cons (λ (q : ListenerTold). q.door.rests) p ps)
 
--- how often doors and wires waited, by what they tell
-door_waits_by : (ports : List ListenerTold) → sum_by (λ (door : DoorTold). door.waits) (map door_of ports) ≡ sum_by (λ (p : ListenerTold). p.door.waits) ports
-door_waits_by [] = refl
-door_waits_by (p ∷ ps) =
-    sum_by-cons (λ (door : DoorTold). door.waits) p.door (map door_of ps)
-    ∙ ap (λ n. p.door.waits + n) (door_waits_by ps)
-    ∙ sym (sum_by-cons (λ (q : ListenerTold). q.door.waits) p ps)
+-- the same since somebody came last
+rows_by : (ports : List ListenerTold) → rests_in_a_row_at (map door_of ports) ≡ rows_kept ports
+rows_by [] = refl
+rows_by (p ∷ ps) =
+    sum_by-cons (λ (door : DoorTold). door.rests_in_a_row) p.door (map door_of ps)
+    ∙ ap (λ n. p.door.rests_in_a_row + n) (rows_by ps)
+    ∙ sym (sum_by-cons (λ (q : ListenerTold). q.door.rests_in_a_row) p ps)
 
-wire_waits_by : (links : List ClientTold) → sum_by (λ (wire : PollTold). wire.waits) (map wire_of links) ≡ sum_by (λ (l : ClientTold). l.waits) links
-wire_waits_by [] = refl
-wire_waits_by (l ∷ ls) =
-    sum_by-cons (λ (wire : PollTold). wire.waits) (wire_of l) (map wire_of ls)
-    ∙ ap (λ n. l.waits + n) (wire_waits_by ls)
-    ∙ sym (sum_by-cons (λ (m : ClientTold). m.waits) l ls)
+-- so many are as many as are counted
+all_rests : (moves rests : ℕ) → moves ≡ most_moves → min moves (2 ^ 64 - 1) ≤ rests → 2 ^ 64 - 1 ≤ rests
+all_rests moves rests is least = omega (arith, is, least)
 
 -- ---- connections
 
@@ -115,56 +120,83 @@ module _ {new : Exchange} (IsMade : WireTold → Type 0) (parts : ProgramParts) 
         ∙ yet.untold;
   }
 
-  paused_so : GaveNone d → (n : ℕ) (pauses : List Pause) (ls : List ClientTold) (vs : List RunConnection) → AreClients IsMade ls vs
-      → WerePausedThen d n pauses ls → WerePaused (HadNoAnswer (run_of parts) h f.all.asked) n pauses vs (map wire_of ls)
-  paused_so none n [] [] [] a b = tt
-  paused_so none n [] [] (v ∷ vs) a b = absurd a
-  paused_so none n [] (l ∷ ls) vs a b = absurd b
-  paused_so none n (x ∷ xs) [] vs a b = absurd b
-  paused_so none n (x ∷ xs) (l ∷ ls) [] a b = absurd a
-  paused_so none n (for_answer ∷ xs) (l ∷ ls) (v ∷ vs) a b = (waited_for none n b.0, paused_so none (suc n) xs ls vs a.1 b.1)
-  paused_so none n (for_wire ∷ xs) (l ∷ ls) (v ∷ vs) a b = (b.0, paused_so none (suc n) xs ls vs a.1 b.1)
-  paused_so none n (at_end ∷ xs) (l ∷ ls) (v ∷ vs) a b = (subst IsOverAt (sym a.0.stage) b.0, paused_so none (suc n) xs ls vs a.1 b.1)
+  -- each connection paused so where nothing came any more
+  quiet_so : GaveNone d → row_of d ≡ most_waits → (n : ℕ) (pauses : List Pause) (ls : List ClientTold) (vs : List RunConnection)
+      → AreClients IsMade ls vs → WerePausedThen true d n pauses ls
+      → WerePaused (HadNoAnswer (run_of parts) h f.all.asked) n pauses vs (map wire_of ls)
+  quiet_so none row n [] [] [] a b = tt
+  quiet_so none row n [] [] (v ∷ vs) a b = absurd a
+  quiet_so none row n [] (l ∷ ls) vs a b = absurd b
+  quiet_so none row n (x ∷ xs) [] vs a b = absurd b
+  quiet_so none row n (x ∷ xs) (l ∷ ls) [] a b = absurd a
+  quiet_so none row n (for_answer ∷ xs) (l ∷ ls) (v ∷ vs) a b = (waited_for none n b.0, quiet_so none row (suc n) xs ls vs a.1 b.1)
+  quiet_so none row n (for_wire ∷ xs) (l ∷ ls) (v ∷ vs) a b =
+      (subst (λ m. m ≤ l.in_a_row) row b.0.1, quiet_so none row (suc n) xs ls vs a.1 b.1)
+  quiet_so none row n (for_room ∷ xs) (l ∷ ls) (v ∷ vs) a b =
+      (subst (λ m. m ≤ l.longest) row b.0.1, quiet_so none row (suc n) xs ls vs a.1 b.1)
+  quiet_so none row n (at_end ∷ xs) (l ∷ ls) (v ∷ vs) a b = (subst IsOverAt (sym a.0.stage) b.0, quiet_so none row (suc n) xs ls vs a.1 b.1)
 
-  module _ (opened : List Bool) (most : ℕ) (is_most : now.kept.most ≡ most) where
+  -- each paused so where none paused for its wire
+  ended_so : GaveNone d → (n : ℕ) (pauses : List Pause) (ls : List ClientTold) (vs : List RunConnection)
+      → AreClients IsMade ls vs → list_any is_for_wire pauses ≡ false → WerePausedThen true d n pauses ls
+      → WerePaused (HadNoAnswer (run_of parts) h f.all.asked) n pauses vs (map wire_of ls)
+  ended_so none n [] [] [] a e b = tt
+  ended_so none n [] [] (v ∷ vs) a e b = absurd a
+  ended_so none n [] (l ∷ ls) vs a e b = absurd b
+  ended_so none n (x ∷ xs) [] vs a e b = absurd b
+  ended_so none n (x ∷ xs) (l ∷ ls) [] a e b = absurd a
+  ended_so none n (for_answer ∷ xs) (l ∷ ls) (v ∷ vs) a e b = (waited_for none n b.0, ended_so none (suc n) xs ls vs a.1 e b.1)
+  ended_so none n (for_wire ∷ xs) (l ∷ ls) (v ∷ vs) a e b = absurd (true≢false e)
+  ended_so none n (for_room ∷ xs) (l ∷ ls) (v ∷ vs) a e b = absurd (true≢false e)
+  ended_so none n (at_end ∷ xs) (l ∷ ls) (v ∷ vs) a e b = (subst IsOverAt (sym a.0.stage) b.0, ended_so none (suc n) xs ls vs a.1 e b.1)
+
+  module _ (opened : List Bool) (most : ℕ) (is_most : now.kept.most ≡ most) (paused : PausedSo true now.kept d) where
     -- what was done with doors and wires
     abbrev used : Used
     used = record { opened = opened; doors = map door_of now.kept.doors; wires = map wire_of now.kept.connections }
 
-    waits_by : waits_of used ≡ waits_at now.kept.doors now.kept.connections
-    waits_by = ap₂ (λ m n. m + n) (door_waits_by now.kept.doors) (wire_waits_by now.kept.connections)
+    many : length now.kept.connections ≡ length f.connections
+    many = as_many IsMade now.kept.connections f.connections f.clients
 
-    -- why no posting came, by the doors and the connections
-    why_so : (n : HadNone now.kept d) → (d.received.ended ≡ true) ⊎ (d.received.waits ≡ most_waits) → (b : Bool) → d.received.ended ≡ b
-        → ((no_more most f.connections used.doors ≡ true) × (list_any is_for_wire n.pauses ≡ false))
-        ⊎ ((most_waits ≤ rests_at used.doors)
-        × ((most_open ≤ count_by is_for_answer n.pauses) ⊎ (most_waits ≤ waits_of used)))
-    why_so n so true e =
-        inl (sym (no_more_is now.kept f.connections most is_most (as_many IsMade now.kept.connections f.connections f.clients)) ∙ (n.over e).0, (n.over e).1)
-    why_so n (inl ended) false e = absurd (true≢false (sym ended ∙ e))
-    why_so n (inr waits) false e =
-        inr (
-          subst (λ r. most_waits ≤ r) (sym (rests_by now.kept.doors)) (enough d.received.waits (rests_kept now.kept.doors) waits (n.rested e)),
-          ⊎_elim (λ full. inl full)
-              (λ waited. inr (subst (λ r. most_waits ≤ r) (sym waits_by) (enough d.received.waits (waits_at now.kept.doors now.kept.connections) waits waited)))
-              (n.waited e),
-        )
-
-    through_by : GaveNone d → (d.received.ended ≡ true) ⊎ (d.received.waits ≡ most_waits) → HadNone now.kept d
+    -- the front had none any more
+    by_end : d.received.ended ≡ true → HadNone true now.kept d
         → IsThrough (HadNoAnswer (run_of parts) h f.all.asked) most f.connections used
-    through_by none so n = record {
-      pauses = n.pauses;
-      each = paused_so none 0 n.pauses now.kept.connections f.connections f.clients n.each;
-      why = why_so n so d.received.ended refl;
-    }
-
-    too_many : (n : ℕ) → length d.received.given ≡ n → n < most_postings → most_postings ≤ length d.received.given → ⊥
-    too_many n is below many = omega (arith, is, below, many)
+    by_end is n =
+        let over = n.over is in
+        ended (record {
+          pauses = n.pauses;
+          each = ended_so (inl is) 0 n.pauses now.kept.connections f.connections f.clients over.1 n.each;
+          closed = sym (no_more_is now.kept f.connections most is_most many) ∙ over.0;
+          none_for_wire = over.1;
+        })
 
     some_waits : (n : ℕ) → n ≡ most_waits → 0 < n
     some_waits n is = omega (arith, is)
 
-    -- Unless the front halted or there were the most postings, it went on until no more could come.
+    -- it found nothing as often in a row as a run looks
+    by_quiet : d.received.waits ≡ most_waits → HadNone true now.kept d
+        → IsThrough (HadNoAnswer (run_of parts) h f.all.asked) most f.connections used
+    by_quiet waits n =
+        let row : row_of d ≡ most_waits = row_is d.received.waits waits in
+        quiet (record {
+          pauses = n.pauses;
+          each = quiet_so (inr (some_waits d.received.waits waits)) row 0 n.pauses now.kept.connections f.connections f.clients n.each;
+          rests = subst (λ r. most_waits ≤ r) (sym (rows_by now.kept.doors)) (subst (λ m. m ≤ rows_kept now.kept.doors) row n.rested);
+          doors =
+              ⊎_elim (λ full. inl (sym (full_is now.kept f.connections n.pauses most is_most many) ∙ full))
+              (λ still. inr (all_map is_quiet door_of now.kept.doors ∙ subst (λ m. list_all (is_quiet_kept m) now.kept.doors ≡ true) row still))
+              n.quiet;
+        })
+
+    -- there were the most looks at which something moved
+    by_moves : d.received.moves ≡ most_moves → IsThrough (HadNoAnswer (run_of parts) h f.all.asked) most f.connections used
+    by_moves moves =
+        most_rests (subst (λ r. 2 ^ 64 - 1 ≤ r) (sym (rests_by now.kept.doors)) (all_rests d.received.moves (rests_kept now.kept.doors) moves f.moved))
+
+    too_many : (n : ℕ) → length d.received.given ≡ n → n < most_postings → most_postings ≤ length d.received.given → ⊥
+    too_many n is below full = omega (arith, is, below, full)
+
+    -- Unless the front halted or there were the most postings, it went on until no more could come or nothing came.
     pub through_so : d.sent.halted ≡ false → length f.all.asked < most_postings
         → IsThrough (HadNoAnswer (run_of parts) h f.all.asked) most f.connections used
     through_so running below = by k.over
@@ -172,12 +204,13 @@ module _ {new : Exchange} (IsMade : WireTold → Type 0) (parts : ProgramParts) 
         fewer : most_postings ≤ length d.received.given → ⊥
         fewer = too_many (length f.all.asked) (given_long IsMade parts h first now d f k) below
 
-        with_none : GaveNone d → (d.received.ended ≡ true) ⊎ (d.received.waits ≡ most_waits)
+        with_none : GaveNone d → (HadNone true now.kept d → IsThrough (HadNoAnswer (run_of parts) h f.all.asked) most f.connections used)
             → IsThrough (HadNoAnswer (run_of parts) h f.all.asked) most f.connections used
-        with_none none so = ⊎_elim (through_by none so) (λ many. absurd (fewer many)) (f.none running none)
+        with_none none so = ⊎_elim so (λ full. absurd (fewer full)) (paused running none)
 
         by : IsOver d → IsThrough (HadNoAnswer (run_of parts) h f.all.asked) most f.connections used
-        by (inl ended) = with_none (inl ended) (inl ended)
+        by (inl is) = with_none (inl is) (by_end is)
         by (inr (inl halted)) = absurd (true≢false (sym halted ∙ running))
-        by (inr (inr (inl waits))) = with_none (inr (some_waits d.received.waits waits)) (inr waits)
-        by (inr (inr (inr many))) = absurd (fewer many)
+        by (inr (inr (inl waits))) = with_none (inr (some_waits d.received.waits waits)) (by_quiet waits)
+        by (inr (inr (inr (inl moves)))) = by_moves moves
+        by (inr (inr (inr (inr full)))) = absurd (fewer full)

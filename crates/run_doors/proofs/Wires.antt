@@ -1,9 +1,7 @@
 -- The wires that come back are those of the connections.
-use Rattle.std.proofs.Common.{◌≡◌, ◌≢◌, ◌≤◌, ◌↔◌, ◌||◌, ℕ, Bool, true, false, not, List, [], ◌∷◌, map}
+use Rattle.std.proofs.Common.{◌≡◌, ◌≢◌, ◌↔◌, ◌||◌, ℕ, Bool, true, false, not, List, [], ◌∷◌, map}
 use Rattle.std.proofs.Common.{refl, sym, ap, ap₂, subst, ◌∙◌, inl, inr, ⊎_elim, true≢false, arith}
 use Rattle.std.specs.List.{AllZip}
-use Rattle.outside_doors.specs.Counts.{added}
-use Rattle.run_theorem.specs.Lines.{most_waits}
 use Rattle.run_theorem.specs.RunConnections.{RunConnection}
 use Rattle.conn_future.specs.declared.stage.Stage.{Stage}
 use Rattle.conn_future.specs.declared.stage.Stage.TheVariants as Stages
@@ -21,10 +19,6 @@ use Rattle.run_door_front.specs.Exchanged.{IsClient, AreClients}
 use Rattle.run_door_front.specs.Draining.{HaveDrained}
 use Rattle.run_doors.specs.Steps.{traffic_of, wire_of}
 use Rattle.run_theorem.specs.Used.{IsWireOf, AreWires, IsWrittenOut}
-
--- a wire that waited as often as a run looks in a row, whatever it had waited before
-waited_enough : (before now : ℕ) → added before most_waits ≤ now → most_waits ≤ now
-waited_enough before now h = omega (arith, h)
 
 none_lost : (line first : WireTold) → failures_of line ≡ failures_of first → first.read_failed ≡ false → line.read_failed ≡ false
 none_lost line first e none = ap (λ (g : Failures). g.read_failed) e ∙ none
@@ -125,14 +119,12 @@ module _ (IsMade : WireTold → Type 0) where
   wires_are (l ∷ ls) (v ∷ vs) k = (wire_is l v k.0, wires_are ls vs k.1)
 
   -- what was due was written on each
-  pub written_out : (ls ms : List ClientTold) (vs : List RunConnection) → AreClients IsMade ms vs → HaveDrained ls ms
+  pub written_out : (ms : List ClientTold) (vs : List RunConnection) → AreClients IsMade ms vs → HaveDrained ms
       → AllZip IsWrittenOut vs (map wire_of ms)
-  written_out [] [] [] k h = tt
-  written_out [] [] (v ∷ vs) k h = absurd k
-  written_out [] (m ∷ ms) vs k h = absurd h
-  written_out (l ∷ ls) [] vs k h = absurd h
-  written_out (l ∷ ls) (m ∷ ms) [] k h = absurd k
-  written_out (l ∷ ls) (m ∷ ms) (v ∷ vs) k h = (
-    ⊎_elim (λ out. inl (λ e. out (sym k.0.stage ∙ e))) (λ waited. inr (waited_enough l.waits m.waits waited)) h.0,
-    written_out ls ms vs k.1 h.1,
+  written_out [] [] k h = tt
+  written_out [] (v ∷ vs) k h = absurd k
+  written_out (m ∷ ms) [] k h = absurd k
+  written_out (m ∷ ms) (v ∷ vs) k h = (
+    ⊎_elim (λ out. inl (λ e. out (sym k.0.stage ∙ e))) (λ waited. inr waited) h.0,
+    written_out ms vs k.1 h.1,
   )

@@ -47,6 +47,7 @@ nothing_exchanged parts left faults to_lines to_notes = (
       asked = [];
       left = None;
       waits = 0;
+      moves = 0;
       ended = false;
       faults = faults;
       seen = 0;
@@ -65,6 +66,7 @@ nothing_exchanged parts left faults to_lines to_notes = (
     given = refl;
     asked = refl;
     waits = refl;
+    unmoved = refl;
     open_yet = refl;
     unseen = refl;
     unnoted = refl;
@@ -83,6 +85,7 @@ nothing_exchanged parts left faults to_lines to_notes = (
       asked = refl;
       left = refl;
       waits = refl;
+      moves = refl;
       faults = refl;
     };
     sent = record {
@@ -165,12 +168,14 @@ received_seen first now count counts noted b h = record {
   asked = h.asked;
   left = h.left;
   waits = h.waits;
+  moves = h.moves;
   faults = h.faults;
 }
 
 -- how many it had been told of when each posting was asked for, once it was asked again
 abbrev pub seens_by : Next → ℕ → List ℕ → List ℕ
 seens_by (nexts.Posting p) count counts = counts ++ count ∷ []
+seens_by nexts.Moved count counts = counts
 seens_by nexts.NotYet count counts = counts
 seens_by nexts.End count counts = counts
 
@@ -201,16 +206,20 @@ came_seen parts (nexts.Posting p) before now count noted g = record {
   services = g.services;
   left = leaves_seen p before.left before now count (before.seens ++ count ∷ []) noted g.left;
   waits = g.waits;
+  moves = g.moves;
   ended = g.ended;
   faults = g.faults;
   seens = refl;
 }
+came_seen parts nexts.Moved before now count noted g =
+    record { none = none_seen before now count noted g.none; waits = g.waits; moves = g.moves; ended = g.ended }
 came_seen parts nexts.NotYet before now count noted g =
-    record { none = none_seen before now count noted g.none; waits = g.waits; ended = g.ended }
+    record { none = none_seen before now count noted g.none; waits = g.waits; moves = g.moves; ended = g.ended }
 came_seen parts nexts.End before now count noted g = record {
   none = none_seen before now count noted g.none;
   over = over_seen before now count noted g.over;
   waits = g.waits;
+  moves = g.moves;
   ended = g.ended;
 }
 
@@ -339,6 +348,7 @@ module _ (parts : ProgramParts) (A B C E F : Type 0) (a : A) (b : B) (c : C) (e 
         (λ (old : slice_get d.received.seens j ≡ Some n). still_wrote n (h.by_then j n old))
         (λ (last : length d.sent.told ≡ n). subst (WroteOf parts asked_now d.sent.told) last (wrote_now running))
         (one_of_more d.received.seens (length d.sent.told) j n at)
+    wrote_asked running nexts.Moved j n at = still_wrote n (h.by_then j n at)
     wrote_asked running nexts.NotYet j n at = still_wrote n (h.by_then j n at)
     wrote_asked running nexts.End j n at = still_wrote n (h.by_then j n at)
 

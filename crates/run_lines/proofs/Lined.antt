@@ -234,7 +234,8 @@ module _ {new : Exchange} (t : Task) (first now : Sides) (d : Exchange) (finishe
       stopped_so same open_yet is (inl ended) = absurd (true≢false (sym ended ∙ open_yet))
       stopped_so same open_yet is (inr (inl halted)) = absurd (true≢false (sym halted ∙ is_running))
       stopped_so same open_yet is (inr (inr (inl waits))) = absurd (let none : d.received.waits ≡ 0 = f.received.waits in omega arith)
-      stopped_so same open_yet is (inr (inr (inr many))) =
+      stopped_so same open_yet is (inr (inr (inr (inl moves)))) = absurd (let none : d.received.moves ≡ 0 = f.received.moves in omega arith)
+      stopped_so same open_yet is (inr (inr (inr (inr many)))) =
           full_so same (subst (λ n. most_postings ≤ n) (ap length f.received.given ∙ length-map came posting_of) many) is
 
       whole_so : HasPassed first.input now.input d.received.ended → CameSo

@@ -120,6 +120,7 @@ ended_by b faults =
       asked = b.asked;
       left = b.left;
       waits = 0;
+      moves = b.moves;
       ended = true;
       faults = faults;
       seen = b.seen;
@@ -133,6 +134,7 @@ ends_so first now b faults none later = record {
   none = record { given = refl; asked = refl; left = inl refl; faults = later; seens = refl };
   over = none_left (λ ps is. absurd (let clash : None ≡ Some ps = sym none ∙ is in cc));
   waits = refl;
+  moves = refl;
   ended = refl;
 }
 
@@ -160,6 +162,7 @@ received-ended first now b over h open_yet = (
     asked = h.asked;
     left = h.left;
     waits = refl;
+    moves = h.moves;
     faults = h.faults;
   },
   ends_so first now b b.faults h.left (omega arith),
@@ -172,6 +175,7 @@ received_by before later = record {
   asked = asked_of (length later.reads);
   left = None;
   waits = 0;
+  moves = before.moves;
   ended = false;
   faults = later.faults;
   seen = 0;
@@ -216,6 +220,7 @@ module _ (first : Input) (reads : List Read) (over : Bool) (running : over ≡ f
     asked = h.asked;
     left = h.left;
     waits = h.waits;
+    moves = h.moves;
     faults = h.faults ∙ sym unfailed;
   }
 
@@ -232,6 +237,7 @@ module _ (first : Input) (reads : List Read) (over : Bool) (running : over ≡ f
       asked = h.asked;
       left = h.left;
       waits = refl;
+      moves = h.moves;
       faults = refl;
     },
     ends_so first (input_of now.passing reads true now.left now.faults) b now.faults h.left (subst (λ n. n ≤ now.faults) (sym h.faults) same.grows.later),
@@ -287,6 +293,7 @@ module _ (first : Input) (reads : List Read) (over : Bool) (running : over ≡ f
             asked = refl;
             left = refl;
             waits = refl;
+            moves = h.moves;
             faults = refl;
           },
           record {
@@ -298,6 +305,7 @@ module _ (first : Input) (reads : List Read) (over : Bool) (running : over ≡ f
             services = all_named parts has_one (posted line).calls;
             left = subst (λ l. Leaves (posting_of (line_in line)) l b (received_by b later)) (sym h.left) refl;
             waits = refl;
+            moves = refl;
             ended = refl;
             faults = subst (λ n. b.faults ≤ n) (sym unfailed) (subst (λ n. n ≤ before.faults) (sym h.faults) (omega arith));
             seens = refl;

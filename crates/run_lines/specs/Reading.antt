@@ -67,4 +67,5 @@ pub record HasReceived (first now : Input) (b : Received) : Type 0 where
   pub asked : b.asked ≡ asked_of (length now.reads)
   pub left : b.left ≡ None
   pub waits : b.waits ≡ 0
+  pub moves : b.moves ≡ 0
   pub faults : b.faults ≡ now.faults

@@ -51,6 +51,7 @@ pub record Gives (parts : ProgramParts) (p : Posting) (before now : Received) : 
   pub services : list_all (names_service parts) p.calls ≡ true
   pub left : Leaves p before.left before now
   pub waits : now.waits ≡ 0
+  pub moves : now.moves ≡ before.moves
   pub ended : now.ended ≡ false
   pub faults : before.faults ≤ now.faults
   pub seens : now.seens ≡ before.seens ++ now.seen ∷ []
@@ -63,10 +64,18 @@ pub record GivesNone (before now : Received) : Type 0 where
   pub faults : before.faults ≤ now.faults
   pub seens : now.seens ≡ before.seens
 
--- It has none yet, once more in a row.
+-- It has none yet, and something moved.
+pub record Moves (before now : Received) : Type 0 where
+  pub none : GivesNone before now
+  pub waits : now.waits ≡ 0
+  pub moves : now.moves ≡ suc before.moves
+  pub ended : now.ended ≡ false
+
+-- It has none yet, and nothing moved, once more in a row.
 pub record Waits (before now : Received) : Type 0 where
   pub none : GivesNone before now
   pub waits : now.waits ≡ suc before.waits
+  pub moves : now.moves ≡ before.moves
   pub ended : now.ended ≡ false
 
 -- why there is no posting any more: of those that are told none is left, what is read failed, or there were the most
@@ -80,15 +89,17 @@ pub record Ends (before now : Received) : Type 0 where
   pub none : GivesNone before now
   pub over : IsOver before now
   pub waits : now.waits ≡ 0
+  pub moves : now.moves ≡ before.moves
   pub ended : now.ended ≡ true
 
--- what came: a posting, none yet, or none any more
+-- what came: a posting, none yet while something moved or nothing did, or none any more
 abbrev pub Came : ProgramParts → Next → Received → Received → Type 0
 Came parts (next.Posting p) before now = Gives parts p before now
+Came parts next.Moved before now = Moves before now
 Came parts next.NotYet before now = Waits before now
 Came parts next.End before now = Ends before now
 
--- Where it had none yet, nothing was told since.
+-- Where it found nothing when it was asked last, nothing was told since.
 abbrev pub IsQuiet : Exchange → Type 0
 IsQuiet d = 0 < d.received.waits → d.received.seen ≡ length d.sent.told
 

@@ -10,14 +10,15 @@ pub record Asked : Type 0 where
   pub request : ℕ
 
 -- The postings that a front gave, each with whose request it is, and those that are left, where they are told; how
--- often in a row it had none yet; whether it ended; how often what it reads failed; how many postings it had been told
--- of when it was asked last, and what had been noted to it by then; and for each posting that it gave, how many
--- postings it had been told of when that was asked for.
+-- often in a row it had none yet and nothing moved; how often in all it had none yet and something moved; whether it
+-- ended; how often what it reads failed; how many postings it had been told of when it was asked last, and what had been
+-- noted to it by then; and for each posting that it gave, how many postings it had been told of when that was asked for.
 pub record Received : Type 0 where
   pub given : List Posting
   pub asked : List Asked
   pub left : Option (List Posting)
   pub waits : ℕ
+  pub moves : ℕ
   pub ended : Bool
   pub faults : ℕ
   pub seen : ℕ
@@ -48,6 +49,7 @@ pub record IsNew (d : Exchange) : Type 0 where
   pub given : d.received.given ≡ []
   pub asked : d.received.asked ≡ []
   pub waits : d.received.waits ≡ 0
+  pub unmoved : d.received.moves ≡ 0
   pub open_yet : d.received.ended ≡ false
   pub unseen : d.received.seen ≡ 0
   pub unnoted : d.received.noted ≡ []

@@ -1,5 +1,5 @@
 -- What a run over lines posts and writes.
-use Rattle.std.specs.Prelude.{◌≡◌, ◌≢◌, ◌⊎◌, ℕ, zero, suc, ◌≤◌, Bool, true, false, MatchBool, List, [], ◌∷◌, ◌++◌}
+use Rattle.std.specs.Prelude.{◌≡◌, ◌≢◌, ◌⊎◌, ℕ, zero, suc, ◌-◌, ◌^◌, ◌≤◌, Bool, true, false, MatchBool, List, [], ◌∷◌, ◌++◌}
 use Rattle.std.specs.Prelude.{length, map, take, flat_map, nat_eq, Option, None, Some, slice_get}
 use Rattle.std.specs.Io.KnownBytes.{IsAtEnd}
 use Rattle.std.specs.Option.{option_map_or}
@@ -22,9 +22,13 @@ use Rattle.run_theorem.specs.Statuses.{Causes, halts}
 abbrev pub most_postings : ℕ
 most_postings = 4294967295
 
--- the most looks in a row that find no posting
+-- the most looks in a row that find nothing
 abbrev pub most_waits : ℕ
 most_waits = 1000000
+
+-- the most looks of a run at which something moved and no posting came
+abbrev pub most_moves : ℕ
+most_moves = 2 ^ 64 - 1
 
 -- ---- what comes in
 

@@ -1,6 +1,6 @@
 -- The theorem: what a run of a program leaves. `RanProgram` says what every run leaves, `IsLined` what one over lines
 -- adds, and `IsDoored` what one over connections adds.
-use Rattle.std.specs.Prelude.{◌≡◌, ◌↔◌, ℕ, suc, ◌<◌, ◌≤◌, Bool, true, false, ◌&&◌, List, [], ◌∷◌, length, map}
+use Rattle.std.specs.Prelude.{◌≡◌, ◌⊎◌, ◌↔◌, ℕ, suc, ◌-◌, ◌^◌, ◌<◌, ◌≤◌, Bool, true, false, ◌&&◌, List, [], ◌∷◌, length, map}
 use Rattle.std.specs.Prelude.{count_by}
 use Rattle.std.specs.List.{list_all, items_where_true, AllZip}
 use Rattle.std.specs.Io.KnownBytes.{Appends, Consumes}
@@ -26,7 +26,7 @@ use Rattle.run_theorem.specs.RunConnections.{RunConnection}
 use Rattle.run_theorem.specs.Served.{IsServed}
 use Rattle.outside_doors.specs.Returns.{DoorsTold}
 use Rattle.run_theorem.specs.Used.{Used, leads_by, came_at_door, leads_to, wires_to, IsUsed, AreWires, IsWrittenOut}
-use Rattle.run_theorem.specs.Through.{HadNoAnswer, IsThrough}
+use Rattle.run_theorem.specs.Through.{HadNoAnswer, IsThrough, rests_at}
 
 -- ---- what is run, and what it meets
 
@@ -150,8 +150,9 @@ pub record IsDoored (IsMade : WireTold → Type 0) (most : ℕ) (t : Task) (a : 
   pub accepted : length served.connections ≤ most
   -- they came at the doors of the program
   pub doors : HasDoors IsMade t.parts a served.connections ended.report.traffic
-  -- unless a note failed all that was due on them was written
-  pub written : ran.status.causes.notes ≡ false → AllZip IsWrittenOut served.connections doors.used.wires
+  -- unless a note failed all that was due on them was written, or it had rested as often in all as is counted
+  pub written : ran.status.causes.notes ≡ false
+      → AllZip IsWrittenOut served.connections doors.used.wires ⊎ (2 ^ 64 - 1 ≤ rests_at doors.used.doors)
   -- unless a note failed or there were the most postings it went on until no more could come, or none came for too long
   pub through : ran.status.causes.notes ≡ false → length ran.came < most_postings
       → IsThrough (HadNoAnswer (run_of t.parts) (history_of ended) served.all.asked) most served.connections doors.used

@@ -1,6 +1,6 @@
 -- Why a run over connections asked for no posting any more.
-use Rattle.std.specs.Prelude.{◌≡◌, ◌⊎◌, ℕ, suc, ◌+◌, ◌<◌, ◌≤◌, Bool, true, false, ◌||◌, List, [], ◌∷◌, length, nat_eq}
-use Rattle.std.specs.Prelude.{nat_le, Some, count_by, sum_by, slice_get}
+use Rattle.std.specs.Prelude.{◌≡◌, ◌⊎◌, ℕ, suc, ◌-◌, ◌^◌, ◌≤◌, Bool, true, false, ◌||◌, List, [], ◌∷◌, length}
+use Rattle.std.specs.Prelude.{nat_eq, nat_le, Some, count_by, sum_by, slice_get}
 use Rattle.std.specs.List.{list_all, list_any}
 use Rattle.outside_doors.specs.Counts.{DoorTold, has_ended}
 use Rattle.outside_polling.specs.Polls.{PollTold}
@@ -17,24 +17,27 @@ use Rattle.conn_future.specs.Stages.{IsOver}
 abbrev pub most_open : ℕ
 most_open = 1024
 
--- why nothing came of a connection: it waited for an answer, its wire has answered that it can move nothing yet, or it
--- was over
+-- why nothing came of a connection: it waited for an answer, its wire could move nothing, its wire had no room for the
+-- text that went out on it, or it was over
 pub data Pause : Type 0 where
   for_answer : Pause
   for_wire : Pause
+  for_room : Pause
   at_end : Pause
 
--- it waited for an answer
-abbrev pub is_for_answer : Pause → Bool
-is_for_answer for_answer = true
-is_for_answer for_wire = false
-is_for_answer at_end = false
-
--- its wire has answered that it can move nothing yet
+-- it waited for its wire
 abbrev pub is_for_wire : Pause → Bool
 is_for_wire for_answer = false
 is_for_wire for_wire = true
+is_for_wire for_room = true
 is_for_wire at_end = false
+
+-- it was not over
+abbrev pub is_unended : Pause → Bool
+is_unended for_answer = true
+is_unended for_wire = true
+is_unended for_room = true
+is_unended at_end = false
 
 -- the last request of connection k had no answer before the end: its posting was not finished by then
 pub record HadNoAnswer (w : Setting) (h : List Entry) (asked : List Asked) (k : ℕ) : Type 0 where
@@ -45,11 +48,13 @@ pub record HadNoAnswer (w : Setting) (h : List Entry) (asked : List Asked) (k : 
   pub last : suc whose.request ≡ count_by (is_of k) asked
   pub unfinished : list_any (nat_eq place) (finished_early w h (length asked)) ≡ false
 
--- What a connection tells by whose pause nothing came of it, where it waited for an answer if this is so: its wire has
--- answered once, at some time, that it can move nothing yet, or it is over.
+-- What a connection tells by whose pause nothing came of it, where it waited for an answer if this is so. The last that
+-- its wire answered is, as often in a row as a run looks, that it can move nothing yet. Or a text went out on it: its wire
+-- answered so as often in a row, and moved something later, when what was due was written. Or it is over.
 abbrev pub Paused : Type 0 → Pause → RunConnection → PollTold → Type 0
 Paused Waited for_answer connection wire = Waited
-Paused Waited for_wire connection wire = 0 < wire.waits
+Paused Waited for_wire connection wire = most_waits ≤ wire.in_a_row
+Paused Waited for_room connection wire = most_waits ≤ wire.longest
 Paused Waited at_end connection wire = IsOver connection.stage
 
 -- each connection, the first of which has the number k, paused so
@@ -62,22 +67,41 @@ WerePaused Waited k ps vs ws = ⊥
 abbrev pub no_more : ℕ → List RunConnection → List DoorTold → Bool
 no_more most connections doors = nat_le most (length connections) || list_all has_ended doors
 
+-- nobody was let in: as many were accepted as may be, or as many were open as may be at once
+abbrev pub is_full : ℕ → List RunConnection → List Pause → Bool
+is_full most connections pauses = nat_le most (length connections) || nat_le most_open (count_by is_unended pauses)
+
+-- a door has ended, or the last that it answered is, as often in a row as a run looks, that nobody has come yet
+abbrev pub is_quiet : DoorTold → Bool
+is_quiet door = has_ended door || nat_le most_waits door.waits_in_a_row
+
 -- how often was rested, at all doors
 abbrev pub rests_at : List DoorTold → ℕ
 rests_at doors = sum_by (λ (door : DoorTold). door.rests) doors
 
--- how often doors answered that nobody has come yet, and wires that they can move nothing yet, in all
-abbrev pub waits_of : Used → ℕ
-waits_of used = sum_by (λ (door : DoorTold). door.waits) used.doors + sum_by (λ (wire : PollTold). wire.waits) used.wires
+-- how often was rested at all doors, at each since somebody came there last
+abbrev pub rests_in_a_row_at : List DoorTold → ℕ
+rests_in_a_row_at doors = sum_by (λ (door : DoorTold). door.rests_in_a_row) doors
 
--- A run asked for no posting any more, with connections that each waited for an answer, had a wire that has answered
--- that it can move nothing yet, or were over. No connection could come any more, and each waited for an answer or was
--- over. Or it rested at the doors as often, over the whole run, as a run looks in a row; and so many connections as may
--- be open waited for an answer in the end, or as often, over the whole run, doors answered that nobody has come yet and
--- wires that they can move nothing yet.
-pub record IsThrough (Waited : ℕ → Type 0) (most : ℕ) (connections : List RunConnection) (used : Used) : Type 0 where
+-- A run ended with its connections: none could come any more, and each waited for an answer or was over.
+pub record HasEnded (Waited : ℕ → Type 0) (most : ℕ) (connections : List RunConnection) (used : Used) : Type 0 where
   pub pauses : List Pause
   pub each : WerePaused Waited 0 pauses connections used.wires
-  pub why : ((no_more most connections used.doors ≡ true) × (list_any is_for_wire pauses ≡ false))
-      ⊎ ((most_waits ≤ rests_at used.doors)
-      × ((most_open ≤ count_by is_for_answer pauses) ⊎ (most_waits ≤ waits_of used)))
+  pub closed : no_more most connections used.doors ≡ true
+  pub none_for_wire : list_any is_for_wire pauses ≡ false
+
+-- Nothing came any more. There were as many rests as a run looks in a row, at each door since somebody came there last.
+-- Nobody came at any door in as many tries in a row, unless nobody was let in. And each connection waited for an answer,
+-- had a wire that could move nothing as often in a row, or was over.
+pub record FellQuiet (Waited : ℕ → Type 0) (most : ℕ) (connections : List RunConnection) (used : Used) : Type 0 where
+  pub pauses : List Pause
+  pub each : WerePaused Waited 0 pauses connections used.wires
+  pub rests : most_waits ≤ rests_in_a_row_at used.doors
+  pub doors : (is_full most connections pauses ≡ true) ⊎ (list_all is_quiet used.doors ≡ true)
+
+-- Why a run asked for no posting any more: it ended with its connections, nothing came any more, or it had rested as
+-- often in all as is counted.
+pub data IsThrough (Waited : ℕ → Type 0) (most : ℕ) (connections : List RunConnection) (used : Used) : Type 0 where
+  ended : HasEnded Waited most connections used → IsThrough Waited most connections used
+  quiet : FellQuiet Waited most connections used → IsThrough Waited most connections used
+  most_rests : 2 ^ 64 - 1 ≤ rests_at used.doors → IsThrough Waited most connections used

@@ -126,7 +126,7 @@ AreWires IsMade [] [] [] = Unit {0}
 AreWires IsMade (v ∷ vs) (t ∷ ts) (w ∷ ws) = IsWireOf IsMade v t w.wire × AreWires IsMade vs ts ws
 AreWires IsMade vs ts ws = ⊥
 
--- No text goes out on a connection any more: all that was due on it was written, or a write failed. Or its wire
--- answered as often, over its whole life, as a run looks in a row that it can move nothing yet.
+-- No text goes out on a connection any more: all that was due on it was written, or a write failed. Or the last that its
+-- wire answered is, as often in a row as a run looks, that it can move nothing yet.
 abbrev pub IsWrittenOut : RunConnection → PollTold → Type 0
-IsWrittenOut connection wire = (connection.stage ≢ Stages.Writes) ⊎ (most_waits ≤ wire.waits)
+IsWrittenOut connection wire = (connection.stage ≢ Stages.Writes) ⊎ (most_waits ≤ wire.in_a_row)

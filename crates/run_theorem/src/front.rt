@@ -8,10 +8,12 @@ use behaviour_tree::{Outcome, Program};
 use office_core::Posting;
 use std::alloc::AllocError;
 
-/// What a front has when it is asked for a posting: one, none yet, or none any more.
+/// What a front has when it is asked for a posting: one; none yet, where something moved or nothing did; or none any
+/// more.
 #[derive(Drop)]
 pub enum Next {
     Posting(Posting),
+    Moved,
     NotYet,
     End,
 }
@@ -26,7 +28,7 @@ pub trait Front {
     /// Whether memory ran out in a call of it: then it answers want of memory from then on.
     ghost spent: { Self → Bool };
 
-    /// The next posting. A front that ended or halted is asked nothing more, and one that had none yet is told nothing
+    /// The next posting. A front that ended or halted is asked nothing more, and one that found nothing is told nothing
     /// before it is asked again. After want of memory nothing has passed.
     fn next(&mut self, program: &Program) -> Result<Next, AllocError>
         requires some { 0 < length (parts_of program.now).services }

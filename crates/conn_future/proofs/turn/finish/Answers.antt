@@ -28,3 +28,9 @@ returns-clause-calls g c = ap (λ (t : PollTold). t.wire.calls) c.close.ensures.
 
 pub returns-clause-ended : goal.returns-clause-ended
 returns-clause-ended g c = ap (λ (t : PollTold). t.wire.ended) c.close.ensures.closed
+
+pub returns-clause-rows : goal.returns-clause-rows
+returns-clause-rows g c = record {
+  row = ap (λ (t : PollTold). t.in_a_row) c.close.ensures.closed;
+  longest = ap (λ (t : PollTold). t.longest) c.close.ensures.closed;
+}

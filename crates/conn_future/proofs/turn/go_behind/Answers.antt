@@ -45,3 +45,15 @@ returns-in_err-go_on-clause-made g c = c.in_err-go_on.ensures.made
 
 pub returns-clause-made : goal.returns-clause-made
 returns-clause-made g c = c.in_ok-go_on.ensures.made
+
+pub returns-then-not-is_out-clause-rows : goal.returns-then-not-is_out-clause-rows
+returns-then-not-is_out-clause-rows g c = record { row = refl; longest = refl }
+
+pub returns-then-close-clause-rows : goal.returns-then-close-clause-rows
+returns-then-close-clause-rows g c = c.finish.ensures.rows
+
+pub returns-in_err-go_on-clause-rows : goal.returns-in_err-go_on-clause-rows
+returns-in_err-go_on-clause-rows g c = record { row = refl; longest = refl }
+
+pub returns-clause-rows : goal.returns-clause-rows
+returns-clause-rows g c = record { row = refl; longest = refl }

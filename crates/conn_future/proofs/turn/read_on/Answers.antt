@@ -1,5 +1,5 @@
 -- What a read brings is taken up, or the wire waits or failed.
-use Rattle.std.proofs.Common.{rules, ◌≡◌, ◌+◌, ◌<◌, ◌≤◌, ◌^◌, ◌++◌, length, length-append, arith, inl, refl, sym, ap, ◌∙◌, subst, [], ◌∷◌, take}
+use Rattle.std.proofs.Common.{rules, ◌≡◌, ◌+◌, ◌<◌, ◌≤◌, ◌^◌, ◌++◌, length, length-append, arith, inl, inr, refl, sym, ap, ◌∙◌, subst, [], ◌∷◌, take}
 use Rattle.std.specs.Io.KnownBytes.{Appends, Consumes}
 use Rattle.outside_traits.specs.Told.{Lists}
 use Rattle.outside_traits.specs.declared.calls.WireCall.TheVariants.{Read}
@@ -14,7 +14,7 @@ use Rattle.conn_future.specs.Talking.{seen, plain}
 use Rattle.conn_future.specs.Steps.{unmade}
 use Rattle.conn_future.proofs.Standing.{waits_fed, waits_spent, ended_now, read_failed_now}
 use Rattle.conn_future.proofs.Writing.{moved}
-use Rattle.conn_future.proofs.Turning.{over_stops, nothing_called, read_less, over_less}
+use Rattle.conn_future.proofs.Turning.{over_stops, nothing_called, read_less, over_less, over_row, same_passed, row_ended, row_goes, rows_kept, holds_on}
 use Rattle.conn_future.proofs.turn.read_on.Goals as goal
 
 pub returns-in_err-reserve-clause-talks : goal.returns-in_err-reserve-clause-talks
@@ -209,6 +209,34 @@ returns-in_ok-go_on-in-Ok-Done-clause-less g c =
     (c.in_ok-go_on-in-Ok-Done.ensures.written ∙ c.stand.ensures.same.written)
     c.in_ok-go_on-in-Ok-Done.ensures.made
 
+pub returns-in-Ok-NotYet-clause-row : goal.returns-in-Ok-NotYet-clause-row
+returns-in-Ok-NotYet-clause-row g c = (
+  ap (λ (t : PollTold). t.in_a_row) (rw c.in-Ok-NotYet.field-0-is at c.in-Ok-NotYet.ensures.reads).1,
+  same_passed c.args.kept.now c.stand-in-Ok-NotYet.new.self (record {
+    reader = c.stand-in-Ok-NotYet.ensures.same.reader ∙ c.stand.ensures.same.reader;
+    read = search rules;
+    written = c.stand-in-Ok-NotYet.ensures.same.written ∙ c.stand.ensures.same.written;
+  }),
+)
+
+pub returns-in_ok-go_on-in-Ok-Done-clause-row : goal.returns-in_ok-go_on-in-Ok-Done-clause-row
+returns-in_ok-go_on-in-Ok-Done-clause-row g c =
+    let read = c.args.kept.now.read.items in
+    let piece = take c.in-Ok-Done.count c.try_read.new.into in
+    let v = c.extend_from_slice.new.self in
+    let grown : v.items ≡ read ++ piece = search rules in
+    let longer = ap length grown ∙ length-append read piece in
+    let count = (rw c.in-Ok-Done.field-0-is at c.in-Ok-Done.ensures.bound).1 in
+    let same = ap length c.in_ok-go_on-in-Ok-Done.ensures.read in
+    let written = ap length (c.in_ok-go_on-in-Ok-Done.ensures.written ∙ c.stand.ensures.same.written) in
+    inr (omega (arith, longer, count, same, written, c.in-Ok-Done.count-test))
+
+pub returns-in-Ok-Done-eq0-clause-row : goal.returns-in-Ok-Done-eq0-clause-row
+returns-in-Ok-Done-eq0-clause-row g c = over_row c.finish.result _ _ c.args.kept.now c.finish.new.kept c.finish.ensures.turn
+
+pub returns-in-Err-clause-row : goal.returns-in-Err-clause-row
+returns-in-Err-clause-row g c = over_row c.finish-in-Err.result _ _ c.args.kept.now c.finish-in-Err.new.kept c.finish-in-Err.ensures.turn
+
 pub returns-in-Ok-Done-eq0-clause-less : goal.returns-in-Ok-Done-eq0-clause-less
 returns-in-Ok-Done-eq0-clause-less g c = over_less c.finish.result c.args.kept.now c.finish.new.kept c.finish.ensures.turn
 
@@ -232,3 +260,33 @@ returns-in_ok-go_on-in-Ok-Done-clause-made g c = c.in_ok-go_on-in-Ok-Done.ensure
 
 pub returns-in-Err-clause-made : goal.returns-in-Err-clause-made
 returns-in-Err-clause-made g c = ap unmade c.finish-in-Err.ensures.finishes.next
+
+pub returns-in_err-reserve-clause-longest : goal.returns-in_err-reserve-clause-longest
+returns-in_err-reserve-clause-longest g c = rows_kept _ _ (record { row = refl; longest = refl })
+
+pub returns-in-Ok-NotYet-clause-longest : goal.returns-in-Ok-NotYet-clause-longest
+returns-in-Ok-NotYet-clause-longest g c =
+    row_goes (g.W.PollWire.told c.args.wire.now) (g.W.PollWire.told c.try_read.new.self) (rw c.in-Ok-NotYet.field-0-is at c.in-Ok-NotYet.ensures.reads).1
+
+pub returns-in-Ok-Done-eq0-clause-longest : goal.returns-in-Ok-Done-eq0-clause-longest
+returns-in-Ok-Done-eq0-clause-longest g c =
+    holds_on _ _ _
+    (row_ended (g.W.PollWire.told c.args.wire.now) (g.W.PollWire.told c.try_read.new.self)
+    (rw c.in-Ok-Done-eq0.field-0-is at c.in-Ok-Done-eq0.ensures.row) (rw c.in-Ok-Done-eq0.field-0-is at c.in-Ok-Done-eq0.ensures.longest))
+    (rows_kept _ _ c.finish.ensures.rows)
+
+pub returns-in_err-go_on-in-Ok-Done-clause-longest : goal.returns-in_err-go_on-in-Ok-Done-clause-longest
+returns-in_err-go_on-in-Ok-Done-clause-longest g c =
+    row_ended (g.W.PollWire.told c.args.wire.now) (g.W.PollWire.told c.try_read.new.self)
+    (rw c.in-Ok-Done.field-0-is at c.in-Ok-Done.ensures.row) (rw c.in-Ok-Done.field-0-is at c.in-Ok-Done.ensures.longest)
+
+pub returns-in_ok-go_on-in-Ok-Done-clause-longest : goal.returns-in_ok-go_on-in-Ok-Done-clause-longest
+returns-in_ok-go_on-in-Ok-Done-clause-longest g c =
+    row_ended (g.W.PollWire.told c.args.wire.now) (g.W.PollWire.told c.try_read.new.self)
+    (rw c.in-Ok-Done.field-0-is at c.in-Ok-Done.ensures.row) (rw c.in-Ok-Done.field-0-is at c.in-Ok-Done.ensures.longest)
+
+pub returns-in-Err-clause-longest : goal.returns-in-Err-clause-longest
+returns-in-Err-clause-longest g c =
+    holds_on _ _ _
+    (row_ended (g.W.PollWire.told c.args.wire.now) (g.W.PollWire.told c.try_read.new.self) c.in-Err.ensures.row c.in-Err.ensures.longest)
+    (rows_kept _ _ c.finish-in-Err.ensures.rows)

@@ -4,7 +4,7 @@ use Rattle.conn_future.specs.Stages.{stage_of}
 use Rattle.conn_future.specs.Talking.{seen}
 use Rattle.conn_future.specs.Steps.{unmade}
 use Rattle.conn_future.proofs.Writing.{responds, responds_not}
-use Rattle.conn_future.proofs.Turning.{nothing_called, over_stops, made_less, unowed, unrested}
+use Rattle.conn_future.proofs.Turning.{nothing_called, over_stops, made_less, same_passed, rows_kept, unowed, unrested}
 use Rattle.conn_future.proofs.turn.take_turn.Goals as goal
 
 pub returns-in-Holds-clause-talks : goal.returns-in-Holds-clause-talks
@@ -71,6 +71,9 @@ returns-in_ok-respond-in-Says-clause-less g c =
     let made = c.in_ok-respond-in-Says.ensures.made in
     made_less c.args.kept.now c.respond.new.kept made.0 (ap unmade c.in-Says.is) (ap unmade made.2)
 
+pub returns-in_ok-respond-in-Says-clause-row : goal.returns-in_ok-respond-in-Says-clause-row
+returns-in_ok-respond-in-Says-clause-row g c = inl (refl, same_passed c.args.kept.now c.respond.new.kept c.in_ok-respond-in-Says.ensures.made.0)
+
 pub returns-in-Waits-clause-rests : goal.returns-in-Waits-clause-rests
 returns-in-Waits-clause-rests g c = λ r. absurd (unrested _ (inl (ap stage_of c.in-Waits.is)) r)
 
@@ -94,3 +97,21 @@ returns-in_ok-respond-in-Says-clause-owes g c = λ e. absurd (unowed _ (ap unmad
 
 pub returns-in_err-respond-in-Says-clause-owes : goal.returns-in_err-respond-in-Says-clause-owes
 returns-in_err-respond-in-Says-clause-owes g c = λ e. absurd (unowed _ (ap unmade c.in_err-respond-in-Says.ensures.made.1) e)
+
+pub returns-in-Holds-clause-longest : goal.returns-in-Holds-clause-longest
+returns-in-Holds-clause-longest g c = rows_kept _ _ (record { row = refl; longest = refl })
+
+pub returns-in-Owes-clause-longest : goal.returns-in-Owes-clause-longest
+returns-in-Owes-clause-longest g c = rows_kept _ _ (record { row = refl; longest = refl })
+
+pub returns-in-Over-clause-longest : goal.returns-in-Over-clause-longest
+returns-in-Over-clause-longest g c = rows_kept _ _ (record { row = refl; longest = refl })
+
+pub returns-in-Spent-clause-longest : goal.returns-in-Spent-clause-longest
+returns-in-Spent-clause-longest g c = rows_kept _ _ (record { row = refl; longest = refl })
+
+pub returns-in_err-respond-in-Says-clause-longest : goal.returns-in_err-respond-in-Says-clause-longest
+returns-in_err-respond-in-Says-clause-longest g c = rows_kept _ _ (record { row = refl; longest = refl })
+
+pub returns-in_ok-respond-in-Says-clause-longest : goal.returns-in_ok-respond-in-Says-clause-longest
+returns-in_ok-respond-in-Says-clause-longest g c = rows_kept _ _ (record { row = refl; longest = refl })

@@ -12,7 +12,7 @@ use Rattle.conn_future.specs.Steps.{unmade}
 use Rattle.conn_future.proofs.Writing.{moved, some_left}
 use Rattle.conn_future.proofs.Sending.{Wrote, sending, not_none, wrote_carried, wrote_out, cut_now}
 use Rattle.conn_future.proofs.Standing.{spends_sending}
-use Rattle.conn_future.proofs.Turning.{stops_since, over_stops, one_write, taken_count, nothing_called, write_less, any_less, over_less}
+use Rattle.conn_future.proofs.Turning.{stops_since, over_stops, one_write, taken_count, nothing_called, write_less, any_less, over_less, any_row, over_row, same_passed, row_ended, row_goes, rows_kept, holds_on}
 use Rattle.conn_future.proofs.turn.write_on.Goals as goal
 
 pub returns-in_err-reserve-clause-talks : goal.returns-in_err-reserve-clause-talks
@@ -157,6 +157,37 @@ returns-in-Ok-Done-clause-less g c =
     (c.go_behind.ensures.read ∙ c.stand.ensures.same.read)
     c.go_behind.ensures.made)
 
+pub returns-in-Ok-NotYet-clause-row : goal.returns-in-Ok-NotYet-clause-row
+returns-in-Ok-NotYet-clause-row g c = (
+  ap (λ (t : PollTold). t.in_a_row) (rw c.in-Ok-NotYet.field-0-is at c.in-Ok-NotYet.ensures.writes).1,
+  same_passed c.args.kept.now c.stand-in-Ok-NotYet.new.self (record {
+    reader = c.stand-in-Ok-NotYet.ensures.same.reader ∙ c.stand.ensures.same.reader;
+    read = c.stand-in-Ok-NotYet.ensures.same.read ∙ c.stand.ensures.same.read;
+    written = search rules;
+  }),
+)
+
+pub returns-in-Ok-Done-clause-row : goal.returns-in-Ok-Done-clause-row
+returns-in-Ok-Done-clause-row g c =
+    let was = c.args.kept.now in
+    let n = c.in-Ok-Done.count in
+    let rest = c.left-rest.result.now in
+    let did = (rw c.in-Ok-Done.field-0-is at c.in-Ok-Done.ensures.writes).0 in
+    let v = c.extend_from_slice.new.self in
+    let some = did.some (subst (λ l. 0 < length l) (sym c.left-rest.ensures) (some_left _ (sym c.is_out.ensures ∙ c.if-is_out.false))) in
+    let grown : v.items ≡ was.written.items ++ take n rest = search rules in
+    let longer = ap length grown ∙ length-append was.written.items (take n rest) in
+    let count = taken_count n rest rest (rw c.in-Ok-Done.field-0-is at c.in-Ok-Done.ensures.bound) refl in
+    let same = ap length c.go_behind.ensures.written in
+    let read = ap length (c.go_behind.ensures.read ∙ c.stand.ensures.same.read) in
+    any_row c.go_behind.result _ _ was c.go_behind.new.kept c.go_behind.ensures.moves (omega (arith, longer, count, same, some, read))
+
+pub returns-in-Err-clause-row : goal.returns-in-Err-clause-row
+returns-in-Err-clause-row g c = over_row c.finish-in-Err.result _ _ c.args.kept.now c.finish-in-Err.new.kept c.finish-in-Err.ensures.turn
+
+pub returns-then-is_out-clause-row : goal.returns-then-is_out-clause-row
+returns-then-is_out-clause-row g c = over_row c.finish.result _ _ c.args.kept.now c.finish.new.kept c.finish.ensures.turn
+
 pub returns-in-Err-clause-less : goal.returns-in-Err-clause-less
 returns-in-Err-clause-less g c = over_less c.finish-in-Err.result c.args.kept.now c.finish-in-Err.new.kept c.finish-in-Err.ensures.turn
 
@@ -194,3 +225,26 @@ returns-in-Ok-Done-clause-made g c = c.go_behind.ensures.made
 
 pub returns-in-Err-clause-made : goal.returns-in-Err-clause-made
 returns-in-Err-clause-made g c = ap unmade c.finish-in-Err.ensures.finishes.next
+
+pub returns-then-is_out-clause-longest : goal.returns-then-is_out-clause-longest
+returns-then-is_out-clause-longest g c = rows_kept _ _ c.finish.ensures.rows
+
+pub returns-in_err-reserve-clause-longest : goal.returns-in_err-reserve-clause-longest
+returns-in_err-reserve-clause-longest g c = rows_kept _ _ (record { row = refl; longest = refl })
+
+pub returns-in-Ok-NotYet-clause-longest : goal.returns-in-Ok-NotYet-clause-longest
+returns-in-Ok-NotYet-clause-longest g c =
+    row_goes (g.W.PollWire.told c.args.wire.now) (g.W.PollWire.told c.try_write.new.self) (rw c.in-Ok-NotYet.field-0-is at c.in-Ok-NotYet.ensures.writes).1
+
+pub returns-in-Ok-Done-clause-longest : goal.returns-in-Ok-Done-clause-longest
+returns-in-Ok-Done-clause-longest g c =
+    holds_on _ _ _
+    (row_ended (g.W.PollWire.told c.args.wire.now) (g.W.PollWire.told c.try_write.new.self)
+    (rw c.in-Ok-Done.field-0-is at c.in-Ok-Done.ensures.row) (rw c.in-Ok-Done.field-0-is at c.in-Ok-Done.ensures.longest))
+    (rows_kept _ _ c.go_behind.ensures.rows)
+
+pub returns-in-Err-clause-longest : goal.returns-in-Err-clause-longest
+returns-in-Err-clause-longest g c =
+    holds_on _ _ _
+    (row_ended (g.W.PollWire.told c.args.wire.now) (g.W.PollWire.told c.try_write.new.self) c.in-Err.ensures.row c.in-Err.ensures.longest)
+    (rows_kept _ _ c.finish-in-Err.ensures.rows)

@@ -17,7 +17,8 @@ loop-alloc-preserved g c =
       takes = takes-next _ c.args.most c.args.door.now c.loop-alloc.door c.accept.new.self c.args.connections.now.items c.loop-alloc.connections.items c.push-in-Some.new.self.items
           c.args.opened.now.items c.loop-alloc.opened.items c.push.new.self.items
           c.new.result c.loop-alloc.invariant.takes c.accept.ensures.goes c.in-Some.ensures.wires
-          (new_link-at _ (g.D.W.PollWire.told w).wire c.new.result (w, refl) c.in-Some.ensures.comes.fresh c.new.ensures.pending c.new.ensures.stage c.new.ensures.talks)
+          (new_link-at _ (g.D.W.PollWire.told w).wire c.new.result (w, refl) c.in-Some.ensures.comes.fresh c.new.ensures.pending
+          (c.new.ensures.row ∙ c.in-Some.ensures.comes.no_row) c.new.ensures.stage c.new.ensures.talks)
           c.new.ensures.stage
           (door-at (g.D.W.PollWire.told w) c.loop-alloc.door.door.place c.new.result c.in-Some.ensures.comes c.new.ensures.talks)
           (c.new.ensures.service ∙ c.service.ensures)

@@ -2,7 +2,9 @@
 use Rattle.std.proofs.Common.{sym, ap, subst}
 use Rattle.run_door_front.specs.Keeping.{is_open_there, IsOrdered}
 use Rattle.run_door_front.specs.NextSteps.{Polls, lined}
+use Rattle.run_door_front.specs.Moving.{HaveWaitedAt}
 use Rattle.run_door_front.proofs.PollingOne.{polls-all}
+use Rattle.run_door_front.proofs.Moving.{waited-all}
 use Rattle.run_door_front.proofs.polling.poll_all.Goals as goal
 
 pub poll_open-requires : goal.poll_open-requires
@@ -15,4 +17,7 @@ returns g c = (
       (subst (λ ns. Polls ns (lined c.args.connections.now.items c.args.queue.now.items) (lined c.poll_open.new.connections.items c.poll_open.new.queue.items))
       c.as_slice.ensures.value c.in_ok-moved.ensures.0),
   c.in_ok-moved.ensures.1,
+  waited-all c.args.connections.now.items c.poll_open.new.connections.items c.args.opened.now.items c.args.queue.now.items c.requires
+      c.in_ok-moved.ensures.0.goes
+      (subst (λ ns. HaveWaitedAt ns c.args.connections.now.items c.poll_open.new.connections.items) c.as_slice.ensures.value c.in_ok-moved.ensures.2),
 )

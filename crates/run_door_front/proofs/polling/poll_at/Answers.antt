@@ -12,7 +12,7 @@ returns-in_ok-push g c =
     let m = c.poll.new.self in
     polled-at c.args.connections.now.items c.args.queue.now.items c.push.new.self.items c.args.number l m _ c.requires c.index_mut.ensures.value c.in_ok-moved.ensures.0
     (c.in_ok-push.ensures.items ∙ ap (λ ns. c.args.queue.now.items ++ ns) (sym (newly-yes c.args.number l m _ c.in_ok-moved.ensures.1 c.if-asks.true)))
-    c.in_ok-moved.ensures.2
+    c.in_ok-moved.ensures.2 c.in_ok-moved.ensures.3
 
 pub returns-else-asks : goal.returns-else-asks
 returns-else-asks g c =
@@ -20,4 +20,4 @@ returns-else-asks g c =
     let m = c.poll.new.self in
     polled-at c.args.connections.now.items c.args.queue.now.items c.args.queue.now.items c.args.number l m _ c.requires c.index_mut.ensures.value c.in_ok-moved.ensures.0
     (sym (append-nil c.args.queue.now.items) ∙ ap (λ ns. c.args.queue.now.items ++ ns) (sym (newly-no c.args.number l m _ c.in_ok-moved.ensures.1 c.if-asks.false)))
-    c.in_ok-moved.ensures.2
+    c.in_ok-moved.ensures.2 c.in_ok-moved.ensures.3

@@ -1,9 +1,9 @@
 -- Turn by turn, until one goes on no more.
-use Rattle.std.proofs.Common.{inl, inr, refl, ap, ◌∙◌}
+use Rattle.std.proofs.Common.{inl, inr, refl, ap, ◌∙◌, subst}
 use Rattle.outside_polling.specs.Polls.{once_more}
-use Rattle.conn_future.specs.Stages.{stage_of}
+use Rattle.conn_future.specs.Stages.{stage_of, IsMoving}
 use Rattle.conn_future.specs.Talking.{seen}
-use Rattle.conn_future.proofs.Turning.{nothing_called, calls_on, prompt_on, rests_on}
+use Rattle.conn_future.proofs.Turning.{nothing_called, calls_on, prompt_on, rests_on, row_on, row_once, rows_kept, holds_on, unrested, spent_unmoving}
 use Rattle.conn_future.proofs.task.ConnTask.poll.Goals as goal
 
 pub loop-init : goal.loop-init
@@ -15,6 +15,8 @@ loop-init g c =
       waits = refl;
       rests = λ _. (refl, refl);
       owes = λ e. e;
+      row = inl (refl, refl);
+      longest = rows_kept _ _ (record { row = refl; longest = refl });
     }
 
 pub loop-preserved : goal.loop-preserved
@@ -28,6 +30,8 @@ loop-preserved g c =
       waits = (rw c.in-Ok-GoesOn.field-0-is at c.in-Ok-GoesOn.ensures.stops) ∙ c.loop.invariant.waits;
       rests = rests_on _ c.loop.self.kept c.take_turn.new.kept _ c.loop.self.wire c.take_turn.new.wire c.loop.invariant.rests c.in-Ok-GoesOn.ensures.rests;
       owes = λ e. c.loop.invariant.owes (c.in-Ok-GoesOn.ensures.owes e);
+      row = row_on _ _ _ c.args.self.now.kept c.loop.self.kept c.take_turn.new.kept c.loop.invariant.row (rw c.in-Ok-GoesOn.field-0-is at c.in-Ok-GoesOn.ensures.row);
+      longest = holds_on _ _ _ c.loop.invariant.longest c.in-Ok-GoesOn.ensures.longest;
     }
 
 pub loop-smaller : goal.loop-smaller
@@ -110,3 +114,43 @@ returns-in-Ok-Over-clause-owes g c = λ e. c.loop.invariant.owes (c.in-Ok-Over.e
 
 pub returns-in-Err-clause-owes : goal.returns-in-Err-clause-owes
 returns-in-Err-clause-owes g c = λ e. c.loop.invariant.owes (c.in-Err.ensures.owes e)
+
+pub returns-in-Ok-Waits-clause-row : goal.returns-in-Ok-Waits-clause-row
+returns-in-Ok-Waits-clause-row g c = λ moving read written.
+    row_once _ _ _ c.args.self.now.kept c.loop.self.kept c.take_turn.new.kept c.loop.invariant.row (rw c.in-Ok-Waits.field-0-is at c.in-Ok-Waits.ensures.row) read written
+
+pub returns-in-Ok-Owes-clause-row : goal.returns-in-Ok-Owes-clause-row
+returns-in-Ok-Owes-clause-row g c = λ moving read written.
+    absurd (unrested _ moving (inl (rw c.in-Ok-Owes.field-0-is at c.in-Ok-Owes.ensures.stops).1))
+
+pub returns-in-Ok-Over-clause-row : goal.returns-in-Ok-Over-clause-row
+returns-in-Ok-Over-clause-row g c = λ moving read written.
+    absurd (unrested _ moving (inr (rw c.in-Ok-Over.field-0-is at c.in-Ok-Over.ensures.stops).1))
+
+pub returns-in-Err-clause-row : goal.returns-in-Err-clause-row
+returns-in-Err-clause-row g c = λ moving read written.
+    absurd (spent_unmoving (subst (λ n. IsMoving (stage_of n)) c.in-Err.ensures.spent.1 moving))
+
+pub returns-in-Ok-Waits-clause-longest : goal.returns-in-Ok-Waits-clause-longest
+returns-in-Ok-Waits-clause-longest g c = (holds_on _ _ _ c.loop.invariant.longest c.in-Ok-Waits.ensures.longest).later
+
+pub returns-in-Ok-Waits-clause-within : goal.returns-in-Ok-Waits-clause-within
+returns-in-Ok-Waits-clause-within g c = (holds_on _ _ _ c.loop.invariant.longest c.in-Ok-Waits.ensures.longest).holds
+
+pub returns-in-Ok-Owes-clause-longest : goal.returns-in-Ok-Owes-clause-longest
+returns-in-Ok-Owes-clause-longest g c = (holds_on _ _ _ c.loop.invariant.longest c.in-Ok-Owes.ensures.longest).later
+
+pub returns-in-Ok-Owes-clause-within : goal.returns-in-Ok-Owes-clause-within
+returns-in-Ok-Owes-clause-within g c = (holds_on _ _ _ c.loop.invariant.longest c.in-Ok-Owes.ensures.longest).holds
+
+pub returns-in-Ok-Over-clause-longest : goal.returns-in-Ok-Over-clause-longest
+returns-in-Ok-Over-clause-longest g c = (holds_on _ _ _ c.loop.invariant.longest c.in-Ok-Over.ensures.longest).later
+
+pub returns-in-Ok-Over-clause-within : goal.returns-in-Ok-Over-clause-within
+returns-in-Ok-Over-clause-within g c = (holds_on _ _ _ c.loop.invariant.longest c.in-Ok-Over.ensures.longest).holds
+
+pub returns-in-Err-clause-longest : goal.returns-in-Err-clause-longest
+returns-in-Err-clause-longest g c = (holds_on _ _ _ c.loop.invariant.longest c.in-Err.ensures.longest).later
+
+pub returns-in-Err-clause-within : goal.returns-in-Err-clause-within
+returns-in-Err-clause-within g c = (holds_on _ _ _ c.loop.invariant.longest c.in-Err.ensures.longest).holds

@@ -4,7 +4,7 @@ use Rattle.behaviour_tree.specs.declared.program.Program.{Program}
 use Rattle.behaviour_tree.specs.PartsView.{parts_of}
 use Rattle.run_sweep.specs.Courses.{stays}
 use Rattle.run_alone.proofs.Picking.{goes_both}
-use Rattle.run_alone.proofs.Looks.{after_under, asks_so, at_end, at_first, at_posting, at_wait, unfailed_between, came_as, closes_so, exchanged_under, fewer_posting, fewer_wait, quiet_at, runs_so}
+use Rattle.run_alone.proofs.Looks.{after_under, asks_so, at_end, at_first, at_move, at_posting, at_wait, unfailed_between, came_as, closes_so, exchanged_under, fewer_move, fewer_posting, fewer_wait, quiet_at, runs_so}
 use Rattle.office_core.specs.Limits.{run_of}
 use Rattle.run_alone.proofs.Completing.{completed_both}
 use Rattle.run_alone.proofs.alone.Alone.bring_in.Goals as goal
@@ -29,12 +29,12 @@ next-requires g c = record {
 
 pub take_in-requires-clause-between : goal.take_in-requires-clause-between
 take_in-requires-clause-between g c =
-    unfailed_between (asks_so c.looks.self.pendings.postings c.looks.looks c.looks.unfailed c.halted-halted.result c.may_ask-going.result
+    unfailed_between (asks_so c.looks.self.pendings.postings c.looks.looks c.looks.moves c.looks.unfailed c.halted-halted.result c.may_ask-going.result
     c.postings.result c.postings.ensures c.may_ask-going.ensures c.if-not-going.false).0 c.looks.invariant.between
 
 pub take_in-requires-clause-room : goal.take_in-requires-clause-room
-take_in-requires-clause-room g c = (asks_so c.looks.self.pendings.postings c.looks.looks c.looks.unfailed c.halted-halted.result c.may_ask-going.result
-    c.postings.result c.postings.ensures c.may_ask-going.ensures c.if-not-going.false).2
+take_in-requires-clause-room g c = (asks_so c.looks.self.pendings.postings c.looks.looks c.looks.moves c.looks.unfailed c.halted-halted.result c.may_ask-going.result
+    c.postings.result c.postings.ensures c.may_ask-going.ensures c.if-not-going.false).3
 
 pub looks-preserved-in-Posting : goal.looks-preserved-in-Posting
 looks-preserved-in-Posting g c =
@@ -52,7 +52,7 @@ looks-preserved-in-Posting g c =
       completed = completed_both i.setting i.completed e.completed;
       passed = λ first before so new passed.
           let at = i.passed first before so new passed in
-          let running = runs_so c.postings.result c.looks.looks c.looks.unfailed c.halted-halted.result at.0.sent.halted
+          let running = runs_so c.postings.result c.looks.looks c.looks.moves c.looks.unfailed c.halted-halted.result at.0.sent.halted
           (c.halted-halted.ensures parts first at.0 at.1) (sym c.may_ask-going.ensures ∙ c.if-not-going.false) in
           at_posting at.2 (exchanged parts first c.next.new.self) c.in-Posting.posting (exchanged parts first c.take_in.new.front) running
           (came_as exchanged c.looks.front c.next.new.self (ap parts_of (c.program.ensures ∙ i.program)) c.in-Posting.is
@@ -64,8 +64,39 @@ looks-preserved-in-Posting g c =
 
 pub looks-smaller-in-Posting : goal.looks-smaller-in-Posting
 looks-smaller-in-Posting g c =
-    fewer_posting c.looks.self.pendings.postings c.take_in.new.self.pendings.postings c.looks.looks
-    c.in_ok-unfailed-in-Posting.ensures.count (asks_so c.looks.self.pendings.postings c.looks.looks c.looks.unfailed c.halted-halted.result c.may_ask-going.result
+    fewer_posting c.looks.self.pendings.postings c.take_in.new.self.pendings.postings c.looks.looks c.looks.moves
+    c.in_ok-unfailed-in-Posting.ensures.count (asks_so c.looks.self.pendings.postings c.looks.looks c.looks.moves c.looks.unfailed c.halted-halted.result c.may_ask-going.result
+    c.postings.result c.postings.ensures c.may_ask-going.ensures c.if-not-going.false).3
+
+pub looks-preserved-in-Moved : goal.looks-preserved-in-Moved
+looks-preserved-in-Moved g c =
+    let i = c.looks.invariant in
+    let exchanged = g.F.Front.exchanged in
+    let parts = parts_of c.args.self.now.cells.program in
+    record {
+      program = i.program;
+      budget = i.budget;
+      setting = i.setting;
+      work = i.work;
+      between = i.between;
+      goes = i.goes;
+      completed = i.completed;
+      passed = λ first before so new passed.
+          let at = i.passed first before so new passed in
+          at_move at.2 (exchanged parts first c.next.new.self)
+          (asks_so c.looks.self.pendings.postings c.looks.looks c.looks.moves c.looks.unfailed c.halted-halted.result c.may_ask-going.result
+          c.postings.result c.postings.ensures c.may_ask-going.ensures c.if-not-going.false).2
+          (came_as exchanged c.looks.front c.next.new.self (ap parts_of (c.program.ensures ∙ i.program)) c.in-Moved.is
+          c.in_ok-posting.ensures.came first at.0 at.1 at.2.going
+          (runs_so c.postings.result c.looks.looks c.looks.moves c.looks.unfailed c.halted-halted.result at.0.sent.halted
+          (c.halted-halted.ensures parts first at.0 at.1) (sym c.may_ask-going.ensures ∙ c.if-not-going.false))
+          (quiet_at at.2));
+    }
+
+pub looks-smaller-in-Moved : goal.looks-smaller-in-Moved
+looks-smaller-in-Moved g c =
+    fewer_move c.looks.self.pendings.postings c.looks.looks c.looks.moves
+    (asks_so c.looks.self.pendings.postings c.looks.looks c.looks.moves c.looks.unfailed c.halted-halted.result c.may_ask-going.result
     c.postings.result c.postings.ensures c.may_ask-going.ensures c.if-not-going.false).2
 
 pub looks-preserved : goal.looks-preserved
@@ -84,19 +115,19 @@ looks-preserved g c =
       passed = λ first before so new passed.
           let at = i.passed first before so new passed in
           at_wait at.2 (exchanged parts first c.next.new.self)
-          (asks_so c.looks.self.pendings.postings c.looks.looks c.looks.unfailed c.halted-halted.result c.may_ask-going.result
+          (asks_so c.looks.self.pendings.postings c.looks.looks c.looks.moves c.looks.unfailed c.halted-halted.result c.may_ask-going.result
           c.postings.result c.postings.ensures c.may_ask-going.ensures c.if-not-going.false).1
           (came_as exchanged c.looks.front c.next.new.self (ap parts_of (c.program.ensures ∙ i.program)) c.in-NotYet.is
           c.in_ok-posting.ensures.came first at.0 at.1 at.2.going
-          (runs_so c.postings.result c.looks.looks c.looks.unfailed c.halted-halted.result at.0.sent.halted
+          (runs_so c.postings.result c.looks.looks c.looks.moves c.looks.unfailed c.halted-halted.result at.0.sent.halted
           (c.halted-halted.ensures parts first at.0 at.1) (sym c.may_ask-going.ensures ∙ c.if-not-going.false))
           (quiet_at at.2));
     }
 
 pub looks-smaller : goal.looks-smaller
 looks-smaller g c =
-    fewer_wait c.looks.self.pendings.postings c.looks.looks
-    (asks_so c.looks.self.pendings.postings c.looks.looks c.looks.unfailed c.halted-halted.result c.may_ask-going.result
+    fewer_wait c.looks.self.pendings.postings c.looks.looks c.looks.moves
+    (asks_so c.looks.self.pendings.postings c.looks.looks c.looks.moves c.looks.unfailed c.halted-halted.result c.may_ask-going.result
     c.postings.result c.postings.ensures c.may_ask-going.ensures c.if-not-going.false).1
 
 pub returns-in-End-clause-passed : goal.returns-in-End-clause-passed
@@ -109,7 +140,7 @@ returns-in-End-clause-passed g c =
     at_end at.2 (exchanged parts first c.next.new.self)
     (came_as exchanged c.looks.front c.next.new.self (ap parts_of (c.program.ensures ∙ i.program)) c.in-End.is
     c.in_ok-posting.ensures.came first at.0 at.1 at.2.going
-    (runs_so c.postings.result c.looks.looks c.looks.unfailed c.halted-halted.result at.0.sent.halted
+    (runs_so c.postings.result c.looks.looks c.looks.moves c.looks.unfailed c.halted-halted.result at.0.sent.halted
     (c.halted-halted.ensures parts first at.0 at.1) (sym c.may_ask-going.ensures ∙ c.if-not-going.false))
     (quiet_at at.2))
 

@@ -21,8 +21,8 @@ invariant-looks g l = record {
   completed : CompletedCallsBy (state g.S.Session l.fn.self.cells).setting (state g.S.Session l.fn.self.cells).history (state g.S.Session l.self.cells).history (g.L.Link.told l.fn.link) (g.L.Link.told l.link);
   passed : Looked g.F.Front.exchanged (parts_of l.fn.self.cells.program) l.fn.front l.front
       (Passed (state g.S.Session l.fn.self.cells) (waits l.fn.self.pendings) l.fn.self.pendings.postings)
-      (λ new. IsAt new (state g.S.Session l.self.cells) (waits l.self.pendings) l.self.pendings.postings l.unfailed l.looks);
+      (λ new. IsAt new (state g.S.Session l.self.cells) (waits l.self.pendings) l.self.pendings.postings l.unfailed l.looks l.moves);
 }
 
 abbrev pub decreases-looks : goal.decreases-looks
-decreases-looks g l = looks_left l.self.pendings.postings l.looks
+decreases-looks g l = looks_left l.self.pendings.postings l.looks l.moves

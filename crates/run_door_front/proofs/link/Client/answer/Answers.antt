@@ -15,9 +15,9 @@ pub returns : goal.returns
 returns g c = λ place owing.
     let told = g.W.PollWire.told in
     let x = c.self.inside in
-    let was : ClientTold = record { service = x.service; seen = seen x.task.kept (told x.task.wire); waits = (told x.task.wire).waits; pending = x.pending } in
+    let was : ClientTold = record { service = x.service; seen = seen x.task.kept (told x.task.wire); waits = (told x.task.wire).waits; in_a_row = (told x.task.wire).in_a_row; longest = (told x.task.wire).longest; pending = x.pending } in
     let y = c.give.new.self in
-    let now : ClientTold = record { service = x.service; seen = seen y.kept (told y.wire); waits = (told y.wire).waits; pending = None } in
+    let now : ClientTold = record { service = x.service; seen = seen y.kept (told y.wire); waits = (told y.wire).waits; in_a_row = (told y.wire).in_a_row; longest = (told y.wire).longest; pending = None } in
     let text = c.in_ok-text.text in
     subst (λ l. HasTold (parts_of c.args.program.now) (told_of place c.args.outcomes.now) l now) c.self.view_is
     (client_told (parts_of c.args.program.now) (told_of place c.args.outcomes.now) text was now
@@ -28,4 +28,4 @@ returns g c = λ place owing.
       talks = λ first bodies texts h.
           subst (λ t. IsTalking first now.seen bodies (texts ++ t ∷ [])) c.in_ok-said.ensures (c.give.ensures.talks first bodies texts h);
     })
-    refl refl (ap (λ w. (told w).waits) c.give.ensures.wire))
+    refl refl (ap (λ w. told w) c.give.ensures.wire))

@@ -13,4 +13,4 @@ returns g c =
     answers-so c.args.place _ _ _ c.asked.result c.in-Some.body c.as_slice.result.now c.in_ok-read-in-Some.read
     c.in_ok-posting-in-Some.posting c.in-Some.is c.as_slice.ensures c.in_ok-read-in-Some.ensures c.in_ok-posting-in-Some.ensures c.self.view_is refl refl
     (owes_asked c.asked.result c.in-Some.body _ _ c.in-Some.is c.asked.ensures.stage)
-    (ap (λ w. (g.W.PollWire.told w).waits) c.asked.ensures.wire) c.asked.ensures.talks
+    (ap (λ w. g.W.PollWire.told w) c.asked.ensures.wire) c.asked.ensures.talks
