@@ -1,4 +1,5 @@
 pub mod Faults
+pub mod Found
 pub mod Lists
 pub mod Operands
 pub mod Parses

@@ -1,8 +1,9 @@
-ghost use Rattle.std.specs.Prelude.{◌≡◌, map, IfOk, Some, OnOk};
+ghost use Rattle.std.specs.Prelude.{◌≡◌, map, IfOk, Some, OnOk, option_and_then, option_map, unwrap_or};
+ghost use Rattle.std.specs.Option.{option_copied};
 ghost use Rattle.behaviour_tree.specs.View.{expr_view, exps_of, member_list_of, member_view, mul_part_view, mul_parts_of, path_view, step_view, sum_part_view, sum_parts_of};
-ghost use Rattle.jolie_expr.specs.Answers.{Answers};
-ghost use Rattle.jolie_expr.specs.Steps.{step_in};
-ghost use Rattle.jolie_trees.specs.Trees.{void_tree};
+ghost use Rattle.jolie_expr.specs.Answers.{Answers, Finds};
+ghost use Rattle.jolie_expr.specs.Steps.{indexed, node_in, step_in};
+ghost use Rattle.jolie_trees.specs.Trees.{child, void_tree};
 ghost use Rattle.behaviour_tree.specs.Values as spec;
 
 use crate::cast::cast;
@@ -12,14 +13,24 @@ use crate::operator::{index_in, negated, product_of_two, sum_of_two, truth_in};
 use crate::text::constant;
 use behaviour_tree::{Expr, Member, MulPart, PathExpr, PathStep, SumPart};
 use jolie_trees::{Path, Root, Step, Text, Tree};
-use sqlite_items::Items;
+use sqlite_items::{Items, at};
 use std::alloc::{AllocError, Global};
 
-/// The whole tree at a path, void where nothing is there.
-fn tree_at(alloc: Global, store: &Tree, path: &Path) -> Result<Tree, AllocError>
-    ensures { IfOk result (λ t. t ≡ spec.tree_at store.now path.now.steps) }
+/// The node of an index under a name of a node, where both are there.
+fn node_below<'a>(node: Option<&'a Tree>, name: &Text, index: Option<u32>) -> Option<&'a Tree>
+    ensures { option_copied result ≡ option_and_then (child (spec.stepped name.now index)) (option_copied node) }
 {
-    match store.get(path) {
+    match node {
+        None => None,
+        Some(tree) => at(tree.members(name), index.unwrap_or(0) as usize),
+    }
+}
+
+/// A copy of a node, void where none is there.
+fn copied_node(alloc: Global, node: Option<&Tree>) -> Result<Tree, AllocError>
+    ensures { IfOk result (λ t. t ≡ unwrap_or (option_copied node) void_tree) }
+{
+    match node {
         None => Ok(Tree::void(alloc)),
         Some(tree) => tree.copied(),
     }
@@ -47,15 +58,15 @@ fn put_member(alloc: Global, literal: &mut Tree, name: &Text, value: Tree) -> Re
 
 /// The value of an expression.
 #[cycle(value)]
-#[tactic(auto, using(crate::proofs::Faults::map_passes, crate::proofs::Faults::then_passes, crate::proofs::Faults::left_passes, crate::proofs::Faults::right_passes))]
+#[tactic(auto, using(crate::proofs::Faults::map_passes, crate::proofs::Faults::then_passes, crate::proofs::Faults::left_passes, crate::proofs::Faults::right_passes, crate::proofs::Found::tree_of_node, crate::proofs::Found::node_passes))]
 pub fn value(alloc: Global, e: &Expr, store: &Tree) -> Result<Tree, EvalError>
     ensures { Answers (spec.value store.now (expr_view e.now)) result }
 {
     match e {
         Expr::Value(root) => Ok(Tree::of_root(alloc, constant(root)?)),
         Expr::Path(path) => {
-            let path = steps_of(alloc, path, store)?;
-            Ok(tree_at(alloc, store, &path)?)
+            let node = found(alloc, path, store)?;
+            Ok(copied_node(alloc, node)?)
         }
         Expr::Count(path) => {
             let path = steps_of(alloc, path, store)?;
@@ -63,8 +74,7 @@ pub fn value(alloc: Global, e: &Expr, store: &Tree) -> Result<Tree, EvalError>
             Ok(Tree::of_root(alloc, count))
         }
         Expr::IsDefined(path) => {
-            let path = steps_of(alloc, path, store)?;
-            let is_there = store.get(&path).is_some();
+            let is_there = found(alloc, path, store)?.is_some();
             Ok(Tree::of_root(alloc, Root::Bool(is_there)))
         }
         Expr::Literal(members) => literal(alloc, members, store),
@@ -111,8 +121,59 @@ pub fn value(alloc: Global, e: &Expr, store: &Tree) -> Result<Tree, EvalError>
 fn root_value(alloc: Global, e: &Expr, store: &Tree) -> Result<Root, EvalError>
     ensures { Answers (spec.root_in (spec.value store.now (expr_view e.now))) result }
 {
+    match e {
+        Expr::Value(root) => constant(root),
+        Expr::Path(path) => root_at(alloc, path, store),
+        _ => root_of_value(alloc, e, store),
+    }
+}
+
+/// The root of the whole value of an expression.
+#[cycle(value)]
+fn root_of_value(alloc: Global, e: &Expr, store: &Tree) -> Result<Root, EvalError>
+    ensures { Answers (spec.root_in (spec.value store.now (expr_view e.now))) result }
+{
     let tree = value(alloc, e, store)?;
     Ok(tree.root().copied()?)
+}
+
+/// The root of the node at a path, void where none is there.
+#[cycle(value)]
+fn root_at(alloc: Global, path: &PathExpr, store: &Tree) -> Result<Root, EvalError>
+    ensures { Answers (spec.root_in (option_map (spec.tree_at store.now)
+        (spec.steps_of store.now (path_view path.now)))) result }
+{
+    match found(alloc, path, store)? {
+        None => Ok(Root::Void),
+        Some(node) => Ok(node.root().copied()?),
+    }
+}
+
+/// The node at a path, whose indices are evaluated one by one on the way; nothing of the path is copied.
+#[cycle(value)]
+fn found<'a>(alloc: Global, path: &PathExpr, store: &'a Tree) -> Result<Option<&'a Tree>, EvalError>
+    ensures { Finds (node_in store.now (path_view path.now)) result }
+{
+    let mut node = Some(store);
+    for step in &path.steps {
+        let index = index_at(alloc, step, store)?;
+        node = node_below(node, &step.name, index);
+    }
+    Ok(node)
+}
+
+/// The index of a step, where it has one.
+#[cycle(value)]
+fn index_at(alloc: Global, step: &PathStep, store: &Tree) -> Result<Option<u32>, EvalError>
+    ensures { Answers (indexed store.now (step_view step.now)) result }
+{
+    match &step.index {
+        None => Ok(None),
+        Some(index) => {
+            let root = root_value(alloc, index, store)?;
+            Ok(Some(index_in(&root).ok_or(EvalError::ExprFault)?))
+        }
+    }
 }
 
 /// What an expression says where a bool is asked.
@@ -213,12 +274,6 @@ fn evaluated(alloc: Global, step: &PathStep, store: &Tree) -> Result<Step, EvalE
     ensures { Answers (step_in store.now (step_view step.now)) result }
 {
     let name = step.name.copied()?;
-    let index = match &step.index {
-        None => None,
-        Some(index) => {
-            let root = root_value(alloc, index, store)?;
-            Some(index_in(&root).ok_or(EvalError::ExprFault)?)
-        }
-    };
+    let index = index_at(alloc, step, store)?;
     Ok(Step { name, index })
 }

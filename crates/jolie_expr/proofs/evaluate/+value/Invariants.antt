@@ -3,6 +3,9 @@ use Rattle.behaviour_tree.specs.Values.{any_from, all_from, literal_from, sum_fr
 use Rattle.behaviour_tree.specs.View.{expr_view, exps_of, member_list_of, member_view, path_of, step_view, sum_part_view, sum_parts_of, mul_part_view, mul_parts_of}
 use Rattle.jolie_trees.specs.Trees.{void_tree}
 use Rattle.std.specs.Prelude.{Some, option_map}
+use Rattle.std.specs.Option.{option_copied}
+use Rattle.jolie_expr.specs.Steps.{node_in}
+use Rattle.jolie_expr.proofs.Found.{node_along}
 use Rattle.jolie_expr.proofs.evaluate.+value.Given as goal
 
 abbrev pub invariant-literal-loop-member : goal.invariant-literal-loop-member
@@ -23,3 +26,7 @@ invariant-product_from-loop-part l = product_from l.store (Some l.product) (mul_
 abbrev pub invariant-steps_of-loop-step : goal.invariant-steps_of-loop-step
 invariant-steps_of-loop-step l =
     option_map (λ ss. l.steps ++ ss) (steps_of l.store (path_of (map step_view (drop l.step-index l.step-items)))) ≡ steps_of l.store (path_of (map step_view l.step-items))
+
+abbrev pub invariant-found-loop-step : goal.invariant-found-loop-step
+invariant-found-loop-step l =
+    node_along (option_copied l.node) (steps_of l.store (path_of (map step_view (drop l.step-index l.step-items)))) ≡ node_in l.store (path_of (map step_view l.step-items))
