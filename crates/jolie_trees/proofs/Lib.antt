@@ -6,3 +6,4 @@ pub mod Growth
 pub mod Kept
 pub mod Lent
 pub mod Lessened
+pub mod Taken
