@@ -18,7 +18,7 @@ use std::alloc::{AllocError, Global};
 
 /// The node of an index under a name of a node, where both are there.
 fn node_below<'a>(node: Option<&'a Tree>, name: &Text, index: Option<u32>) -> Option<&'a Tree>
-    ensures { option_copied result ≡ option_and_then (child (spec.stepped name.now index)) (option_copied node) }
+    ensures { option_copied result ≡ option_and_then (child (spec.stepped name.now index)) (option_copied node.entry) }
 {
     match node {
         None => None,
@@ -28,7 +28,7 @@ fn node_below<'a>(node: Option<&'a Tree>, name: &Text, index: Option<u32>) -> Op
 
 /// A copy of a node, void where none is there.
 fn copied_node(alloc: Global, node: Option<&Tree>) -> Result<Tree, AllocError>
-    ensures { IfOk result (λ t. t ≡ unwrap_or (option_copied node) void_tree) }
+    ensures { IfOk result (λ t. t ≡ unwrap_or (option_copied node.entry) void_tree) }
 {
     match node {
         None => Ok(Tree::void(alloc)),

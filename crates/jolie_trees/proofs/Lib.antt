@@ -7,3 +7,4 @@ pub mod Kept
 pub mod Lent
 pub mod Lessened
 pub mod Taken
+pub mod Counted

@@ -1,6 +1,10 @@
 ghost use Rattle.std.specs.Prelude.{◌≡◌, ◌≤◌, ◌+◌, ℕ, max, length, true, Some, OnOk, OnErr};
 ghost use Rattle.jolie_trees.specs.Data.{Tree as Plain};
 ghost use Rattle.jolie_trees.specs.Trees as spec;
+ghost use Rattle.jolie_trees.specs.Trees.{children_of, names_of};
+ghost use Rattle.std.specs.Ordering.{nat_cmp};
+ghost use Rattle.std.specs.Cmp.Lexicographic.{slice_cmp};
+ghost use Rattle.std.specs.List.Sorted.{IsStrictlySortedBy};
 ghost use Rattle.jolie_trees.specs.Counts.{FitsAs, taken, taken_of as spec_taken_of};
 ghost use Rattle.jolie_trees.specs.TreeView.{trees_of};
 ghost use Rattle.jolie_trees.specs.Extents.{at_or_void};
@@ -13,6 +17,7 @@ use super::measure::extent_of_all;
 use super::set::{MOST_LEVELS, MOST_NODES};
 use crate::path::{Path, Step};
 use crate::root::Root;
+use crate::text::Text;
 use sqlite_items::at;
 use std::alloc::AllocError;
 
@@ -89,6 +94,15 @@ impl Tree {
         }
     }
 
+    /// The trees under a name of a node, whose names are in order.
+    fn members_in_order(&self, name: &Text) -> &[Tree]
+        ensures members { trees_of result.now ≡ spec.under name.now (children_of self.now) }
+        ensures ordered { IsStrictlySortedBy (slice_cmp nat_cmp) (names_of (children_of self.now)) }
+    {
+        drop(self.children());
+        self.members(name)
+    }
+
     /// How many nodes a change at the end of some steps makes on the way.
     fn made_along(&self, steps: &[Step]) -> u64
         ensures nodes { (f : Plain → Plain) → let old = at_or_void steps.now (Some self.now) in
@@ -101,7 +115,7 @@ impl Tree {
         match steps {
             [] => 0,
             [step, rest @ ..] => {
-                let members = self.members(&step.name);
+                let members = self.members_in_order(&step.name);
                 match at(members, step.place()) {
                     Some(node) => node.made_along(rest),
                     None => made_anew(rest).saturating_add((step.place() - members.len()) as u64),
