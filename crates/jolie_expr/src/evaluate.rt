@@ -22,8 +22,15 @@ fn node_below<'a>(node: Option<&'a Tree>, name: &Text, index: Option<u32>) -> Op
 {
     match node {
         None => None,
-        Some(tree) => at(tree.members(name), index.unwrap_or(0) as usize),
+        Some(tree) => at(tree.members(name), place_in(index)),
     }
+}
+
+/// The place of a node in its vector.
+fn place_in(index: Option<u32>) -> usize
+    ensures { result ≡ unwrap_or index 0 }
+{
+    index.unwrap_or(0) as usize
 }
 
 /// A copy of a node, void where none is there.
