@@ -1,10 +1,8 @@
 -- The node that a path leads to, step by step.
-use Rattle.std.proofs.Common.{◌≡◌, ◌+◌, ◌<◌, ◌∷◌, ℕ, List, map, drop, length, get_or, Option, Some, None, Result, Err, refl, sym, ap, ◌∙◌, slice_get}
+use Rattle.std.proofs.Common.{◌≡◌, ◌+◌, ◌<◌, ◌∷◌, ℕ, List, map, drop, length, get_or, Option, Some, None, Result, Err, refl, sym, ap, ◌∙◌}
 use Rattle.std.specs.Prelude.{option_map, option_and_then, unwrap_or}
-use Rattle.jolie_trees.specs.Data.{Tree, node}
-use Rattle.jolie_trees.specs.Trees.{void_tree, child, children_of, get, index_of, nth, root_of, under}
-use Rattle.jolie_trees.specs.TreeView.{trees_of}
-use Rattle.jolie_trees.proofs.Entries.{nth-get}
+use Rattle.jolie_trees.specs.Data.{Tree}
+use Rattle.jolie_trees.specs.Trees.{void_tree, child, get, root_of}
 use Rattle.jolie_trees.specs.declared.path.Step.{Step}
 use Rattle.jolie_trees.specs.declared.root.Root.{Root}
 use Rattle.behaviour_tree.specs.Data.{Exp, PathTree}
@@ -17,15 +15,6 @@ use Rattle.jolie_expr.specs.Answers.{Answers}
 use Rattle.jolie_expr.specs.Steps.{indexed, node_in}
 use Rattle.jolie_expr.proofs.Faults.{passes_on}
 use Rattle.jolie_expr.proofs.Lists.{taken_off}
-
-child-nth : (s : Step) (t : Tree) → child s t ≡ nth (index_of s) (under s.name (children_of t))
-child-nth s (node r fs) = refl
-
--- the node of an index among those that are lent under a name
-pub below_there : (name : List ℕ) (index : Option ℕ) (t : Tree) (xs : List Tree) (place : ℕ) (found : Option Tree)
-    → trees_of xs ≡ under name (children_of t) → place ≡ unwrap_or index 0 → found ≡ slice_get xs place → found ≡ child (stepped name index) t
-below_there name index t xs place found lent is at =
-    at ∙ sym (nth-get place xs) ∙ ap (nth place) lent ∙ ap (λ n. nth n (under name (children_of t))) is ∙ sym (child-nth (stepped name index) t)
 
 -- the paths of some steps, each after a step of that name and index
 abbrev pub after_step : List ℕ → Option (List Step) → Option ℕ → Option (List Step)

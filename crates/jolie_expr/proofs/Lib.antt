@@ -1,3 +1,4 @@
+pub mod Below
 pub mod Faults
 pub mod Found
 pub mod Lists
