@@ -1,14 +1,13 @@
 -- The node that a path leads to, step by step.
-use Rattle.std.proofs.Common.{◌≡◌, ◌+◌, ◌<◌, ◌∷◌, ℕ, List, map, drop, length, get_or, Option, Some, None, Result, Err, refl, sym, ap, ◌∙◌}
+use Rattle.std.proofs.Common.{◌≡◌, ◌+◌, ◌<◌, ◌∷◌, ℕ, List, map, drop, length, get_or, Option, Some, None, Err, refl, sym, ap, ◌∙◌}
 use Rattle.std.specs.Prelude.{option_map, option_and_then, unwrap_or}
 use Rattle.jolie_trees.specs.Data.{Tree}
 use Rattle.jolie_trees.specs.Trees.{void_tree, child, get, root_of}
 use Rattle.jolie_trees.specs.declared.path.Step.{Step}
-use Rattle.jolie_trees.specs.declared.root.Root.{Root}
 use Rattle.behaviour_tree.specs.Data.{Exp, PathTree}
 use Rattle.behaviour_tree.specs.Operators.{index_in}
 use Rattle.behaviour_tree.specs.Values.{value, root_in, stepped, steps_of, tree_at}
-use Rattle.behaviour_tree.specs.View.{path_of, step_of, step_view, StepView}
+use Rattle.behaviour_tree.specs.View.{path_of, step_of, step_view}
 use Rattle.behaviour_tree.specs.declared.expr.PathStep.{PathStep}
 use Rattle.jolie_expr.specs.declared.eval_error.EvalError.{EvalError}
 use Rattle.jolie_expr.specs.Answers.{Answers}
