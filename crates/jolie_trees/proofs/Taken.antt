@@ -1,9 +1,9 @@
 -- What is taken away, and what is left.
-use Rattle.std.proofs.Common.{◌≡◌, ℕ, zero, suc, ◌+◌, List, [], ◌∷◌, Option, None, Some, Bool, true, false, arith}
+use Rattle.std.proofs.Common.{◌≡◌, ℕ, zero, suc, ◌+◌, ◌≤◌, List, [], ◌∷◌, length, Option, None, Some, Bool, true, false, refl, arith}
 use Rattle.std.specs.Prelude.{bytes_eq, if◌then◌else◌, option_map, unwrap_or}
 use Rattle.jolie_trees.specs.declared.path.Step.{Step}
 use Rattle.jolie_trees.specs.Data.{Tree, node, Fields, no_fields, field, Trees, no_trees, tree}
-use Rattle.jolie_trees.specs.Trees.{size, fields_size, trees_size, nth, under, without_nth, left_of, field_if, change_if_there, change_nth_if_there, index_of, undef}
+use Rattle.jolie_trees.specs.Trees.{size, fields_size, trees_size, nth, under, child, without_nth, left_of, field_if, change_if_there, change_nth_if_there, index_of, undef}
 use Rattle.jolie_trees.specs.Counts.{taken_of, taken}
 use Rattle.jolie_trees.specs.Laws.{UndefTakes}
 
@@ -42,6 +42,12 @@ change_if_there-takes : (name : List ℕ) (g : Trees → Trees) (h : Trees → �
 change_if_there-takes name g h takes no_fields = let none = takes no_trees in omega (arith, none)
 change_if_there-takes name g h takes (field other ts fs) =
     takes-step (bytes_eq name other) other g h ts (under name fs) (change_if_there name g fs) fs takes (change_if_there-takes name g h takes fs)
+
+-- past its first step
+pub taken-more : (s : Step) (p : List Step) (t : Tree) → 1 ≤ length p
+    → taken (s ∷ p) t ≡ count_in (taken p) (child s t)
+taken-more s [] t h = absurd (omega (arith, h))
+taken-more s (s' ∷ p) t h = refl
 
 above : (n k m : ℕ) → n + k ≡ m → suc n + k ≡ suc m
 above n k m h = omega (arith, h)

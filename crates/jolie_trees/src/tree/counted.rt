@@ -140,10 +140,8 @@ fn taken_of(members: &[Tree], index: Option<u32>) -> u64
 
 /// How many nodes a change makes at the end of some steps from a node that is missing, that node included.
 fn made_anew(steps: &[Step]) -> u64
-    ensures nodes { (f : Plain → Plain) → in_u64 (spec.size (spec.change steps.now f spec.void_tree) + 1)
+    ensures { (f : Plain → Plain) → in_u64 (spec.size (spec.change steps.now f spec.void_tree) + 1)
         ≡ in_u64 (result + spec.size (f spec.void_tree)) }
-    ensures levels { (f : Plain → Plain) → spec.levels (spec.change steps.now f spec.void_tree)
-        ≡ length steps.now + spec.levels (f spec.void_tree) }
 {
     match steps {
         [] => 1,
