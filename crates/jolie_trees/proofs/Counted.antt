@@ -5,10 +5,12 @@ use Rattle.std.specs.Prelude.{bytes_eq, if◌then◌else◌, unwrap_or}
 use Rattle.std.specs.Cmp.Lexicographic.{slice_cmp}
 use Rattle.std.specs.List.Sorted.{IsStrictlySortedBy}
 use Rattle.jolie_trees.specs.declared.path.Step.{Step}
+use Rattle.jolie_trees.specs.declared.extent.Extent.{Extent}
+use Rattle.jolie_trees.specs.declared.root.Root.{Root}
 use Rattle.jolie_trees.specs.Data.{Tree, node, Fields, no_fields, field, Trees, no_trees, tree}
-use Rattle.jolie_trees.specs.Trees.{void_tree, size, levels, fields_size, fields_levels, trees_size, trees_levels, count_of, nth, under, child, children_of, names_of, index_of, change, change_nth}
-use Rattle.jolie_trees.specs.Extents.{at_or_void}
-use Rattle.jolie_trees.specs.Limits.{in_u64, most_nodes, most_levels, is_store}
+use Rattle.jolie_trees.specs.Trees.{void_tree, size, levels, fields_size, fields_levels, trees_size, trees_levels, count_of, nth, under, child, children_of, names_of, index_of, change, change_nth, set, set_root, with_root}
+use Rattle.jolie_trees.specs.Extents.{extent_of, at_or_void}
+use Rattle.jolie_trees.specs.Limits.{in_u64, in_u32, most_nodes, most_levels, is_store}
 use Rattle.jolie_trees.specs.Counts.{FitsAs}
 use Rattle.jolie_trees.specs.TreeView.{trees_of}
 use Rattle.jolie_trees.proofs.Entries.{nth-get}
@@ -243,29 +245,77 @@ pub at_or_void-size : (p : List Step) (t : Tree) → size (at_or_void p (Some t)
 at_or_void-size [] t = omega arith
 at_or_void-size (s ∷ p) t = at-or-void-step s p t (child s t) refl (at_or_void-size p)
 
-levels-step : (s : Step) (p : List Step) (t : Tree) (o : Option Tree) → child s t ≡ o
+at-or-void-deep : (s : Step) (p : List Step) (t : Tree) (o : Option Tree) → child s t ≡ o
     → ((x : Tree) → length p + levels (at_or_void p (Some x)) ≤ max (levels x) (length p + 1))
     → suc (length p) + levels (at_or_void p o) ≤ max (levels t) (suc (length p) + 1)
-levels-step s p t None is more = omega arith
-levels-step s p t (Some x) is more = let less = child-smaller s t x is in let one = more x in omega (arith, less.1, one)
+at-or-void-deep s p t None is more = omega arith
+at-or-void-deep s p t (Some x) is more = let less = child-smaller s t x is in let one = more x in omega (arith, less.1, one)
 
 -- and reaches no deeper, unless the path alone does
 pub at_or_void-levels : (p : List Step) (t : Tree) → length p + levels (at_or_void p (Some t)) ≤ max (levels t) (length p + 1)
 at_or_void-levels [] t = omega arith
-at_or_void-levels (s ∷ p) t = levels-step s p t (child s t) refl (at_or_void-levels p)
+at_or_void-levels (s ∷ p) t = at-or-void-deep s p t (child s t) refl (at_or_void-levels p)
 
 pub within-limits : (t : Tree) → is_store t ≡ true → (size t ≤ most_nodes) × (levels t ≤ most_levels)
 within-limits t h = (grind (arith, nat_tests, h), grind (arith, nat_tests, h))
 
--- a tree of which a number and a depth are known as far as the limits go
+-- a tree of which the nodes and the levels are known as far as the limits go
 abbrev pub IsKnownBy : Tree → ℕ → ℕ → Type 0
-IsKnownBy u n k = (min n (suc most_nodes) ≡ min (size u) (suc most_nodes)) × (max k most_levels ≡ max (levels u) most_levels)
+IsKnownBy u n k =
+    (min n (suc most_nodes) ≡ min (size u) (suc most_nodes)) × (min (max k most_levels) (suc most_levels) ≡ min (max (levels u) most_levels) (suc most_levels))
 
 pub fits-known : (u : Tree) (n k : ℕ) → IsKnownBy u n k → n ≤ most_nodes → k ≤ most_levels → FitsAs u (Some n)
-fits-known u n k known small low = let nodes = known.0 in let depth = known.1 in (grind (arith, nat_tests, nodes, depth, small, low), omega (arith, nodes, small))
+fits-known u n k known small low =
+    let nodes = known.0 in
+    let depth = known.1 in
+    let same : n ≡ size u = omega (arith, nodes, small) in
+    let deep : levels u ≤ most_levels = omega (arith, depth, low) in
+    (grind (arith, nat_tests, same, small, deep), same)
 
 pub too-many : (u : Tree) (n k : ℕ) → IsKnownBy u n k → most_nodes < n → FitsAs u None
-too-many u n k known large = let nodes = known.0 in grind (arith, nat_tests, nodes, large)
+too-many u n k known large = let large : most_nodes < size u = omega (arith, known.0, large) in grind (arith, nat_tests, large)
 
 pub too-deep : (u : Tree) (n k : ℕ) → IsKnownBy u n k → most_levels < k → FitsAs u None
-too-deep u n k known deep = let depth = known.1 in grind (arith, nat_tests, depth, deep)
+too-deep u n k known deep = let deep : most_levels < levels u = omega (arith, known.1, deep) in grind (arith, nat_tests, deep)
+
+pub known-set : (p : List Step) (v t : Tree) (made nodes sum grown left top : ℕ) (new old : Extent) → is_store t ≡ true → nodes ≡ size t
+    → Makes p (λ _. v) t made → Reaches p (λ _. v) t most_levels → new ≡ extent_of v → old ≡ extent_of (at_or_void p (Some t))
+    → sum ≡ in_u64 (nodes + made) → grown ≡ in_u64 (sum + new.nodes) → left ≡ grown - old.nodes → top ≡ in_u64 (length p + new.levels)
+    → IsKnownBy (set p v t) left top
+known-set p v t made nodes sum grown left top new old fits counted makes reaches of_new of_old s g l d =
+    let within = within-limits t fits in
+    let there = at_or_void-size p t in
+    let new_nodes : new.nodes ≡ in_u64 (size v) = ap (λ (e : Extent). e.nodes) of_new in
+    let new_levels : new.levels ≡ in_u32 (levels v) = ap (λ (e : Extent). e.levels) of_new in
+    let old_nodes : old.nodes ≡ in_u64 (size (at_or_void p (Some t))) = ap (λ (e : Extent). e.nodes) of_old in
+    (nodes-step _ _ _ _ _ _ _ _ _ _ _ counted within.0 there makes new_nodes old_nodes s g l, levels-step _ _ _ _ _ reaches new_levels d)
+  where
+    nodes-step : (whole was t v made nodes new old sum grown left : ℕ) → nodes ≡ t → t ≤ most_nodes → was ≤ t → in_u64 (whole + was) ≡ in_u64 (t + made + v)
+        → new ≡ in_u64 v → old ≡ in_u64 was → sum ≡ in_u64 (nodes + made) → grown ≡ in_u64 (sum + new) → left ≡ grown - old
+        → min left (suc most_nodes) ≡ min whole (suc most_nodes)
+    nodes-step whole was t v made nodes new old sum grown left c w h m n o s g l = omega (arith, c, w, h, m, n, o, s, g, l)
+    levels-step : (whole v new top steps : ℕ) → max whole most_levels ≡ max (steps + v) most_levels → new ≡ in_u32 v → top ≡ in_u64 (steps + new)
+        → min (max top most_levels) (suc most_levels) ≡ min (max whole most_levels) (suc most_levels)
+    levels-step whole v new top steps r n d = omega (arith, r, n, d)
+
+with_root-size : (r : Root) (t : Tree) → size (with_root r t) ≡ size t
+with_root-size r (node old fs) = refl
+
+with_root-levels : (r : Root) (t : Tree) → levels (with_root r t) ≡ levels t
+with_root-levels r (node old fs) = refl
+
+pub known-root : (p : List Step) (r : Root) (t : Tree) (made nodes grown : ℕ) → is_store t ≡ true → nodes ≡ size t
+    → Makes p (with_root r) t made → Reaches p (with_root r) t most_levels → grown ≡ in_u64 (nodes + made)
+    → IsKnownBy (set_root p r t) grown (suc (length p))
+known-root p r t made nodes grown fits counted makes reaches g =
+    let within = within-limits t fits in
+    let old = at_or_void p (Some t) in
+    (nodes-step _ _ _ _ _ _ _ counted within.0 (at_or_void-size p t) makes (with_root-size r old) g,
+    levels-step _ _ _ _ _ within.1 (at_or_void-levels p t) reaches (with_root-levels r old) (levels-some old))
+  where
+    nodes-step : (whole was new t made nodes grown : ℕ) → nodes ≡ t → t ≤ most_nodes → was ≤ t → in_u64 (whole + was) ≡ in_u64 (t + made + new)
+        → new ≡ was → grown ≡ in_u64 (nodes + made) → min grown (suc most_nodes) ≡ min whole (suc most_nodes)
+    nodes-step whole was new t made nodes grown c w h m n g = omega (arith, c, w, h, m, n, g)
+    levels-step : (whole was new t steps : ℕ) → t ≤ most_levels → steps + was ≤ max t (steps + 1) → max whole most_levels ≡ max (steps + new) most_levels
+        → new ≡ was → 1 ≤ was → min (max (suc steps) most_levels) (suc most_levels) ≡ min (max whole most_levels) (suc most_levels)
+    levels-step whole was new t steps w h r n some = omega (arith, w, h, r, n, some)
