@@ -24,7 +24,7 @@ impl Memory {
     ghost use Rattle.session_values.specs.Kept.{Keeps};
 
     /// Puts a tree at a path, and says whether that passes no limit; else the store stays.
-    #[tactic(auto, using(crate::proofs::Limits::large, crate::proofs::Limits::deep, crate::proofs::Limits::within))]
+    #[tactic(auto, using(crate::proofs::Limits::fits, crate::proofs::Limits::unfit))]
     pub fn put(&mut self, path: &Path, value: Tree) -> Result<bool, AllocError>
         ensures done { IfOk result (λ done. done ≡ is_store (spec.set path.now.steps value self.old.store)) }
         ensures store { IfOk result
@@ -41,7 +41,7 @@ impl Memory {
     }
 
     /// Puts a root at a path, and says whether that passes no limit; else the store stays.
-    #[tactic(auto, using(crate::proofs::Limits::large, crate::proofs::Limits::deep, crate::proofs::Limits::within))]
+    #[tactic(auto, using(crate::proofs::Limits::fits, crate::proofs::Limits::unfit))]
     pub fn put_root(&mut self, path: &Path, root: Root) -> Result<bool, AllocError>
         ensures done { IfOk result (λ done. done ≡ is_store (spec.set_root path.now.steps root self.old.store)) }
         ensures store { IfOk result
@@ -58,7 +58,7 @@ impl Memory {
     }
 
     /// Takes away the nodes that a path names.
-    #[tactic(auto, using(crate::proofs::Limits::lessened))]
+    #[tactic(auto, using(crate::proofs::Limits::lessened, crate::proofs::Limits::left))]
     pub fn take_away(&mut self, path: &Path)
         ensures store { self.new.store ≡ spec.undef path.now.steps self.old.store }
         ensures kept { Keeps self.old self.new }
@@ -69,6 +69,7 @@ impl Memory {
     }
 
     /// Whether the store would keep its limits with a tree at a path.
+    #[tactic(auto, using(crate::proofs::Limits::is_some_fits))]
     pub fn fits_set(&self, path: &Path, value: &Tree) -> bool
         ensures { result ≡ is_store (spec.set path.now.steps value.now self.now.store) }
     {
@@ -76,6 +77,7 @@ impl Memory {
     }
 
     /// Whether the store would keep its limits with a root at a path, which one it be.
+    #[tactic(auto, using(crate::proofs::Limits::is_some_fits))]
     pub fn fits_root(&self, path: &Path) -> bool
         ensures { (r : PlainRoot) → result ≡ is_store (spec.set_root path.now.steps r self.now.store) }
     {
