@@ -293,7 +293,10 @@ known-set p v t made nodes sum grown left top new old fits counted makes reaches
     nodes-step : (whole was t v made nodes new old sum grown left : ℕ) → nodes ≡ t → t ≤ most_nodes → was ≤ t → in_u64 (whole + was) ≡ in_u64 (t + made + v)
         → new ≡ in_u64 v → old ≡ in_u64 was → sum ≡ in_u64 (nodes + made) → grown ≡ in_u64 (sum + new) → left ≡ grown - old
         → min left (suc most_nodes) ≡ min whole (suc most_nodes)
-    nodes-step whole was t v made nodes new old sum grown left c w h m n o s g l = omega (arith, c, w, h, m, n, o, s, g, l)
+    nodes-step whole was t v made nodes new old sum grown left c w h m n o s g l =
+        let sums : grown ≡ in_u64 (t + made + v) = omega (arith, c, n, s, g) in
+        let same : grown ≡ in_u64 (whole + was) = omega (arith, sums, m) in
+        omega (arith, w, h, o, same, l)
     levels-step : (whole v new top steps : ℕ) → max whole most_levels ≡ max (steps + v) most_levels → new ≡ in_u32 v → top ≡ in_u64 (steps + new)
         → min (max top most_levels) (suc most_levels) ≡ min (max whole most_levels) (suc most_levels)
     levels-step whole v new top steps r n d = omega (arith, r, n, d)

@@ -1,4 +1,4 @@
-use Rattle.std.proofs.Common.{arith, subst, None, Some}
+use Rattle.std.proofs.Common.{arith, suc, length, subst, None, Some}
 use Rattle.jolie_trees.specs.Trees.{set_root, with_root}
 use Rattle.jolie_trees.specs.Counts.{FitsAs}
 use Rattle.jolie_trees.specs.Limits.{most_levels}
@@ -14,7 +14,7 @@ returns-then-steps c = λ r.
     (c.made_along.ensures.nodes (with_root r)) (c.made_along.ensures.levels (with_root r) most_levels (within-limits store c.requires.within).1)
     c.saturating_add-grown.ensures in
     subst (λ p. FitsAs (set_root p r store) (Some c.saturating_add-grown.result)) c.as_slice-steps.ensures
-    (fits-known _ _ _ known (omega (arith, c.if-grown-le-MOST_NODES.true)) (omega (arith, c.if-steps.true)))
+    (fits-known (set_root p r store) c.saturating_add-grown.result (suc (length p)) known (omega (arith, c.if-grown-le-MOST_NODES.true)) (omega (arith, c.if-steps.true)))
 
 pub returns-else-grown-le-MOST_NODES : goal.returns-else-grown-le-MOST_NODES
 returns-else-grown-le-MOST_NODES c = λ r.
@@ -23,8 +23,8 @@ returns-else-grown-le-MOST_NODES c = λ r.
     let known = known-root p r store c.made_along.result c.args.nodes _ c.requires.within c.requires.counted
     (c.made_along.ensures.nodes (with_root r)) (c.made_along.ensures.levels (with_root r) most_levels (within-limits store c.requires.within).1)
     c.saturating_add-grown.ensures in
-    subst (λ p. FitsAs (set_root p r store) None) c.as_slice-steps.ensures
-    (elim c.else-grown-le-MOST_NODES.branch [
-    else-grown-le-MOST_NODES-via-then-grown-le-MOST_NODES+else-steps w ↦ too-deep _ _ _ known (omega (arith, w.if-steps.false))
-    | else-grown-le-MOST_NODES-via-else-grown-le-MOST_NODES w ↦ too-many _ _ _ known (omega (arith, w.if-grown-le-MOST_NODES.false))
-    ])
+    let passes : FitsAs (set_root p r store) None = elim c.else-grown-le-MOST_NODES.branch [
+    else-grown-le-MOST_NODES-via-then-grown-le-MOST_NODES+else-steps w ↦ too-deep (set_root p r store) c.saturating_add-grown.result (suc (length p)) known (omega (arith, w.if-steps.false))
+    | else-grown-le-MOST_NODES-via-else-grown-le-MOST_NODES w ↦ too-many (set_root p r store) c.saturating_add-grown.result (suc (length p)) known (omega (arith, w.if-grown-le-MOST_NODES.false))
+    ] in
+    subst (λ p. FitsAs (set_root p r store) None) c.as_slice-steps.ensures passes
