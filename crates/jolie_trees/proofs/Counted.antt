@@ -273,10 +273,10 @@ fits-known u n k known small low =
     (grind (arith, nat_tests, same, small, deep), same)
 
 pub too-many : (u : Tree) (n k : ℕ) → IsKnownBy u n k → most_nodes < n → FitsAs u None
-too-many u n k known large = let large : most_nodes < size u = omega (arith, known.0, large) in grind (arith, nat_tests, large)
+too-many u n k known large = let more : most_nodes < size u = omega (arith, known.0, large) in grind (arith, nat_tests, more)
 
 pub too-deep : (u : Tree) (n k : ℕ) → IsKnownBy u n k → most_levels < k → FitsAs u None
-too-deep u n k known deep = let deep : most_levels < levels u = omega (arith, known.1, deep) in grind (arith, nat_tests, deep)
+too-deep u n k known deep = let more : most_levels < levels u = omega (arith, known.1, deep) in grind (arith, nat_tests, more)
 
 pub known-set : (p : List Step) (v t : Tree) (made nodes sum grown left top : ℕ) (new old : Extent) → is_store t ≡ true → nodes ≡ size t
     → Makes p (λ _. v) t made → Reaches p (λ _. v) t most_levels → new ≡ extent_of v → old ≡ extent_of (at_or_void p (Some t))
