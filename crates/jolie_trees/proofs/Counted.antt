@@ -297,6 +297,7 @@ known-set p v t made nodes sum grown left top new old fits counted makes reaches
         let sums : grown ≡ in_u64 (t + made + v) = omega (arith, c, n, s, g) in
         let same : grown ≡ in_u64 (whole + was) = omega (arith, sums, m) in
         omega (arith, w, h, o, same, l)
+
     levels-step : (whole v new top steps : ℕ) → max whole most_levels ≡ max (steps + v) most_levels → new ≡ in_u32 v → top ≡ in_u64 (steps + new)
         → min (max top most_levels) (suc most_levels) ≡ min (max whole most_levels) (suc most_levels)
     levels-step whole v new top steps r n d = omega (arith, r, n, d)
@@ -312,13 +313,15 @@ pub known-root : (p : List Step) (r : Root) (t : Tree) (made nodes grown : ℕ) 
     → IsKnownBy (set_root p r t) grown (suc (length p))
 known-root p r t made nodes grown fits counted makes reaches g =
     let within = within-limits t fits in
-    let old = at_or_void p (Some t) in
-    (nodes-step _ _ _ _ _ _ _ counted within.0 (at_or_void-size p t) makes (with_root-size r old) g,
-    levels-step _ _ _ _ _ within.1 (at_or_void-levels p t) reaches (with_root-levels r old) (levels-some old))
+    let old = at_or_void p (Some t) in (
+      nodes-step _ _ _ _ _ _ _ counted within.0 (at_or_void-size p t) makes (with_root-size r old) g,
+      levels-step _ _ _ _ _ within.1 (at_or_void-levels p t) reaches (with_root-levels r old) (levels-some old),
+    )
   where
     nodes-step : (whole was new t made nodes grown : ℕ) → nodes ≡ t → t ≤ most_nodes → was ≤ t → in_u64 (whole + was) ≡ in_u64 (t + made + new)
         → new ≡ was → grown ≡ in_u64 (nodes + made) → min grown (suc most_nodes) ≡ min whole (suc most_nodes)
     nodes-step whole was new t made nodes grown c w h m n g = omega (arith, c, w, h, m, n, g)
+
     levels-step : (whole was new t steps : ℕ) → t ≤ most_levels → steps + was ≤ max t (steps + 1) → max whole most_levels ≡ max (steps + new) most_levels
         → new ≡ was → 1 ≤ was → min (max (suc steps) most_levels) (suc most_levels) ≡ min (max whole most_levels) (suc most_levels)
     levels-step whole was new t steps w h r n some = omega (arith, w, h, r, n, some)

@@ -24,7 +24,7 @@ returns-else-left-le-MOST_NODES c =
     (c.made_along.ensures.nodes (λ _. value)) (c.made_along.ensures.levels (λ _. value) most_levels (within-limits store c.requires.within).1)
     c.extent-value.ensures c.extent_at.ensures c.saturating_add.ensures c.saturating_add-grown.ensures c.saturating_sub-left.ensures c.saturating_add-levels.ensures in
     let passes : FitsAs (set c.as_slice-steps.result.now value store) None = elim c.else-left-le-MOST_NODES.branch [
-    else-left-le-MOST_NODES-via-then-left-le-MOST_NODES+else-levels w ↦ too-deep (set c.as_slice-steps.result.now value store) c.saturating_sub-left.result c.saturating_add-levels.result known (omega (arith, w.if-levels.false))
-    | else-left-le-MOST_NODES-via-else-left-le-MOST_NODES w ↦ too-many (set c.as_slice-steps.result.now value store) c.saturating_sub-left.result c.saturating_add-levels.result known (omega (arith, w.if-left-le-MOST_NODES.false))
+      | else-left-le-MOST_NODES-via-then-left-le-MOST_NODES+else-levels w ↦ too-deep (set c.as_slice-steps.result.now value store) c.saturating_sub-left.result c.saturating_add-levels.result known (omega (arith, w.if-levels.false))
+      | else-left-le-MOST_NODES-via-else-left-le-MOST_NODES w ↦ too-many (set c.as_slice-steps.result.now value store) c.saturating_sub-left.result c.saturating_add-levels.result known (omega (arith, w.if-left-le-MOST_NODES.false))
     ] in
     subst (λ p. FitsAs (set p value store) None) c.as_slice-steps.ensures passes

@@ -24,7 +24,7 @@ returns-else-grown-le-MOST_NODES c = λ r.
     (c.made_along.ensures.nodes (with_root r)) (c.made_along.ensures.levels (with_root r) most_levels (within-limits store c.requires.within).1)
     c.saturating_add-grown.ensures in
     let passes : FitsAs (set_root p r store) None = elim c.else-grown-le-MOST_NODES.branch [
-    else-grown-le-MOST_NODES-via-then-grown-le-MOST_NODES+else-steps w ↦ too-deep (set_root p r store) c.saturating_add-grown.result (suc (length p)) known (omega (arith, w.if-steps.false))
-    | else-grown-le-MOST_NODES-via-else-grown-le-MOST_NODES w ↦ too-many (set_root p r store) c.saturating_add-grown.result (suc (length p)) known (omega (arith, w.if-grown-le-MOST_NODES.false))
+      | else-grown-le-MOST_NODES-via-then-grown-le-MOST_NODES+else-steps w ↦ too-deep (set_root p r store) c.saturating_add-grown.result (suc (length p)) known (omega (arith, w.if-steps.false))
+      | else-grown-le-MOST_NODES-via-else-grown-le-MOST_NODES w ↦ too-many (set_root p r store) c.saturating_add-grown.result (suc (length p)) known (omega (arith, w.if-grown-le-MOST_NODES.false))
     ] in
     subst (λ p. FitsAs (set_root p r store) None) c.as_slice-steps.ensures passes
