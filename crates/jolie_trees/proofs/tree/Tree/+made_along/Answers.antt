@@ -1,5 +1,5 @@
-use Rattle.std.proofs.Common.{◌≡◌, ◌+◌, ◌-◌, Some, None, ◌∷◌, max, take, drop, length, ap, sym, ◌∙◌, subst, arith}
-use Rattle.jolie_trees.specs.Trees.{child, change, size, levels}
+use Rattle.std.proofs.Common.{◌≡◌, ◌-◌, Some, None, ◌∷◌, take, drop, length, subst}
+use Rattle.jolie_trees.specs.Trees.{child}
 use Rattle.jolie_trees.proofs.Entries.{steps-split}
 use Rattle.jolie_trees.proofs.Counted.{child-member, Makes, Reaches, makes-there, makes-missing, reaches-there, reaches-missing}
 use Rattle.jolie_trees.proofs.tree.Tree.+made_along.Goals as goal

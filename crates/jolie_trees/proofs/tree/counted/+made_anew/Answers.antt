@@ -1,5 +1,5 @@
-use Rattle.std.proofs.Common.{◌≡◌, ◌∷◌, ◌+◌, ◌-◌, take, drop, length, ap, sym, ◌∙◌, arith}
-use Rattle.jolie_trees.specs.Trees.{void_tree, change, index_of, size}
+use Rattle.std.proofs.Common.{◌≡◌, ◌∷◌, ◌+◌, ◌-◌, take, drop, length, ap, sym, ◌∙◌}
+use Rattle.jolie_trees.specs.Trees.{void_tree, change, size}
 use Rattle.jolie_trees.specs.Limits.{in_u64}
 use Rattle.jolie_trees.proofs.Entries.{steps-split}
 use Rattle.jolie_trees.proofs.Counted.{anew-size, anew-sum}
