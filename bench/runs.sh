@@ -4,7 +4,9 @@
 # package json-rpc for Python (bench/baseline.py) where that is installed (Debian's python3-jsonrpc); and `check` on a
 # file of 2,000 types, operations and services. Then how the cost of a run grows, in instructions where valgrind is
 # there: with ten times the sessions, and with ten times the events of one session, each of which has to be at most 12
-# times as much; and of a call beside 3,900 sessions that wait, at most 1.3 times one beside 10. The times have no limits. It needs a program that `rt ci` has proved, outside the gate: bench/runs.sh
+# times as much; of assignments into a vector of 60,000 nodes, at most twice those into one of 600; and of a call beside
+# 3,900 sessions that wait, at most 1.3 times one beside 10. The times have no limits. It needs a program that `rt ci`
+# has proved, outside the gate: bench/runs.sh
 # shellcheck source=bench/common.sh
 . "$(dirname "$0")/common.sh"
 find_program
@@ -115,6 +117,22 @@ for most in 497 4997; do
 done
 growth "10,000 events beside 1,000" \
     "$(instructions "$work/events.497.ol" "$work/one")" "$(instructions "$work/events.4997.ol" "$work/one")" || failed=1
+# The instructions of 100 assignments into a vector of so many nodes.
+assigned() {
+    for most in 1 101; do
+        {
+            echo 'interface GoI { RequestResponse: go(void)(int) }'
+            echo 'service S { inputPort In { location: "local://s" interfaces: GoI }'
+            echo "main { go()(y) { v[$(($1 - 1))] = 0 ; i = 0 ; while (i < $most) { v[i] = i ; i++ } ; y = i } } }"
+        } > "$work/assigned.$most.ol"
+    done
+    echo "$(instructions "$work/assigned.1.ol" "$work/one") $(instructions "$work/assigned.101.ol" "$work/one")" |
+        awk '{ print $2 - $1 }'
+}
+echo "$(assigned 600) $(assigned 60000)" | awk '{
+    printf "100 assignments into a vector of 60,000 nodes: %.2f times those into one of 600\n", $2 / $1
+    exit $2 > 2 * $1
+}' || failed=1
 {
     echo 'type Name: void { id: string }'
     echo 'interface WaitI { RequestResponse: begin(Name)(string) OneWay: end(Name) }'

@@ -109,6 +109,26 @@ change_under-splits name g (field other ts fs) h =
     (λ equal. others-below name fs (below-equal name other fs equal h.0))
     (change_under-splits name g fs h.1))
 
+whole-step : (o : Ordering) (other : List ℕ) (ts below : Trees) (fs rest : Fields) → (o ≡ Equal → rest ≡ fs) → SplitsInto fs rest below
+    → SplitsInto (field other ts fs) (if is_eq o then rest else field other ts rest) (if is_eq o then ts else below)
+whole-step Less other ts below fs rest equal more = (omega (arith, more.0), omega (arith, more.1))
+whole-step Equal other ts below fs rest equal more =
+    let n : fields_size rest ≡ fields_size fs = ap fields_size (equal refl) in
+    let l : fields_levels rest ≡ fields_levels fs = ap fields_levels (equal refl) in
+    (omega (arith, n), omega (arith, l))
+whole-step Greater other ts below fs rest equal more = (omega (arith, more.0), omega (arith, more.1))
+
+-- children in order are the vector of a name and the others
+pub fields-split : (name : List ℕ) (fs : Fields) → IsStrictlySortedBy (slice_cmp nat_cmp) (names_of fs)
+    → SplitsInto fs (others name fs) (under name fs)
+unfolding IsStrictlySortedBy
+fields-split name no_fields h = (omega arith, omega arith)
+fields-split name (field other ts fs) h =
+    rw (texts_ties name other)
+    (whole-step (slice_cmp nat_cmp name other) other ts (under name fs) fs (others name fs)
+    (λ equal. others-below name fs (below-equal name other fs equal h.0))
+    (fields-split name fs h.1))
+
 -- the vector under the first name of a path, once the node at the path is changed
 abbrev pub changed_vector : Step → List Step → (Tree → Tree) → Tree → Trees
 changed_vector s p f t = change_nth (index_of s) (change p f) (under s.name (children_of t))

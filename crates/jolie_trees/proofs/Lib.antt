@@ -6,3 +6,5 @@ pub mod Growth
 pub mod Kept
 pub mod Lent
 pub mod Lessened
+pub mod Taken
+pub mod Counted

@@ -2,6 +2,7 @@ pub mod Coding
 pub mod Data
 pub mod Trees
 pub mod Limits
+pub mod Counts
 pub mod TreeCode
 pub mod TreeView
 pub mod Ranks

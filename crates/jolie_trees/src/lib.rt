@@ -11,7 +11,7 @@ mod text;
 mod tree;
 
 pub use bytes::Bytes;
-pub use laws::{trees_keep_what_is_set, undef_keeps_limits};
+pub use laws::{trees_keep_what_is_set, undef_keeps_limits, undef_takes};
 pub use path::{Path, Step};
 pub use root::Root;
 pub use set_error::SetError;

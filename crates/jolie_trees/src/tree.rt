@@ -7,6 +7,7 @@ mod change;
 mod children;
 mod copied;
 mod count;
+mod counted;
 mod growth;
 mod measure;
 mod push;

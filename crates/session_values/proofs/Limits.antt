@@ -1,25 +1,30 @@
--- Which trees pass a limit of a store.
-use Rattle.std.proofs.Common.{◌≡◌, ◌<◌, Bool, true, false, IsTrue, ◌&&◌, List, refl}
-use Rattle.std.specs.Prelude.{nat_le}
-use Rattle.std.proofs.lemmas.Bool.{lt-leb}
+-- What a change of a counted store comes to.
+use Rattle.std.proofs.Common.{◌≡◌, ◌-◌, ℕ, true, false, List, Option, None, Some, sym, arith}
+use Rattle.std.specs.Option.{is_some}
 use Rattle.jolie_trees.specs.declared.path.Step.{Step}
 use Rattle.jolie_trees.specs.Data.{Tree}
-use Rattle.jolie_trees.specs.Trees.{size, levels, undef}
-use Rattle.jolie_trees.specs.Limits.{is_store, most_nodes, most_levels}
+use Rattle.jolie_trees.specs.Trees.{size, undef}
+use Rattle.jolie_trees.specs.Limits.{is_store, in_u64}
+use Rattle.jolie_trees.specs.Counts.{FitsAs, taken}
 use Rattle.jolie_trees.proofs.Lessened.{undef-keeps_limits}
+use Rattle.jolie_trees.proofs.Taken.{undef-takes}
+use Rattle.jolie_trees.proofs.Counted.{within-limits}
 
-and_false : (b : Bool) → (b && false) ≡ false
-and_false true = refl
-and_false false = refl
+pub fits : (t : Tree) (n : ℕ) → FitsAs t (Some n) → true ≡ is_store t
+fits t n h = sym h.0
 
-pub large : (t : Tree) → most_nodes < size t → false ≡ is_store t
-large t h = let e = lt-leb (size t) most_nodes h in rw e refl
+pub unfit : (t : Tree) → FitsAs t None → false ≡ is_store t
+unfit t h = sym h
 
-pub deep : (t : Tree) → most_levels < levels t → false ≡ is_store t
-deep t h = let e = lt-leb (levels t) most_levels h in rw (e, and_false (nat_le (size t) most_nodes)) refl
-
-pub within : (t : Tree) → IsTrue (is_store t) → true ≡ is_store t
-within t h = let e : is_store t ≡ true = h in rw e refl
+pub is_some_fits : (t : Tree) (n : Option ℕ) → FitsAs t n → is_some n ≡ is_store t
+is_some_fits t None h = sym h
+is_some_fits t (Some n) h = sym h.0
 
 pub lessened : (p : List Step) (t : Tree) → is_store t ≡ true → is_store (undef p t) ≡ true
 lessened = undef-keeps_limits
+
+-- the nodes that are left of those that were there
+pub left : (p : List Step) (t : Tree) (nodes gone rest : ℕ) → is_store t ≡ true → nodes ≡ size t → gone ≡ in_u64 (taken p t)
+    → rest ≡ nodes - gone → rest ≡ size (undef p t)
+left p t nodes gone rest fits counted taken less =
+    let all = undef-takes p t in let within = within-limits t fits in omega (arith, all, within.0, counted, taken, less)

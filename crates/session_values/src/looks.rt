@@ -1,9 +1,6 @@
 ghost use Rattle.std.specs.Prelude.{◌≡◌, IfOk};
 ghost use Rattle.behaviour_tree.specs.View.{expr_view, path_view};
 ghost use Rattle.session_calculus.specs.Effects as spec;
-ghost use Rattle.jolie_trees.specs.Limits.{is_store};
-ghost use Rattle.jolie_trees.specs.Trees.{set, set_root};
-ghost use Rattle.jolie_trees.specs.declared.root.Root.{Root};
 ghost use Rattle.session_values.specs.Effects.{fault_in};
 
 use crate::changes::unless_done;
@@ -11,7 +8,6 @@ use crate::evaluate::steps_of;
 use crate::memory::Memory;
 use crate::placed::placed_value;
 use behaviour_tree::{Expr, PathExpr, standard};
-use jolie_trees::{Path, Tree};
 use std::alloc::{AllocError, Global};
 
 /// The fault that an assignment has, where it has one.
@@ -27,7 +23,7 @@ pub fn fault_of_assign(
 {
     match placed_value(alloc, path, expr, &memory.store)? {
         None => Ok(Some(standard::EXPR_FAULT)),
-        Some(placed) => Ok(unless_done(fits_root(&memory.store, &placed.path)?)),
+        Some(placed) => Ok(unless_done(memory.fits_root(&placed.path))),
     }
 }
 
@@ -44,7 +40,7 @@ pub fn fault_of_copy(
 {
     match placed_value(alloc, path, expr, &memory.store)? {
         None => Ok(Some(standard::EXPR_FAULT)),
-        Some(placed) => Ok(unless_done(fits_set(&memory.store, &placed.path, &placed.value)?)),
+        Some(placed) => Ok(unless_done(memory.fits_set(&placed.path, &placed.value))),
     }
 }
 
@@ -61,18 +57,4 @@ pub fn fault_of_undef(
         None => Ok(Some(standard::EXPR_FAULT)),
         Some(_) => Ok(None),
     }
-}
-
-/// Whether the store keeps its limits with a root at a path.
-fn fits_root(store: &Tree, path: &Path) -> Result<bool, AllocError>
-    ensures { (r : Root) → IfOk result (λ fits. fits ≡ is_store (set_root path.now.steps r store.now)) }
-{
-    Ok(store.fits_root(path))
-}
-
-/// Whether the store keeps its limits with a tree at a path.
-fn fits_set(store: &Tree, path: &Path, value: &Tree) -> Result<bool, AllocError>
-    ensures { IfOk result (λ fits. fits ≡ is_store (set path.now.steps value.now store.now)) }
-{
-    Ok(store.fits_set(path, value))
 }

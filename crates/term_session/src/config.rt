@@ -56,6 +56,7 @@ pub fn first_config(alloc: Global, service: &Service) -> Result<Config, AllocErr
         form,
         memory: Memory {
             store,
+            nodes: 1,
             next,
             call: 0,
         },

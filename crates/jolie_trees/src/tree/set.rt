@@ -14,10 +14,10 @@ use crate::root::Root;
 use crate::set_error::SetError;
 
 /// The most nodes that a change may leave.
-const MOST_NODES: u64 = 65_536;
+pub(super) const MOST_NODES: u64 = 65_536;
 
 /// The most levels that a change may leave.
-const MOST_LEVELS: u32 = 64;
+pub(super) const MOST_LEVELS: u32 = 64;
 
 impl Tree {
     /// Puts a tree at a path, with void nodes for those that are missing. After each refusal the
@@ -76,7 +76,7 @@ impl Tree {
     }
 
     /// The extent of the node that the steps lead to, a missing one being void.
-    fn extent_at(&self, steps: &[Step]) -> Extent
+    pub(super) fn extent_at(&self, steps: &[Step]) -> Extent
         ensures { result ≡ extent_of (at_or_void steps.now (Some self.now)) }
     {
         match self.at(steps) {
