@@ -20,7 +20,7 @@ use Rattle.conn_future.specs.declared.stage.Standing.{Standing}
 use Rattle.conn_future.specs.declared.stage.Standing.TheVariants as Stands
 use Rattle.conn_future.specs.declared.turn.Turn.{Turn}
 use Rattle.conn_future.specs.declared.turn.Turn.TheVariants as Turns
-use Rattle.conn_future.specs.Stages.{IsMoving, IsUnanswered, IsOver, IsAtRest, stage_behind, stage_of}
+use Rattle.conn_future.specs.Stages.{IsMoving, IsUnanswered, IsAnswering, IsOver, IsAtRest, stage_behind, stage_of}
 use Rattle.conn_future.specs.Talking.{Seen, plain, IsTalking, TalksOn, StaysPrompt}
 use Rattle.conn_future.specs.Steps.{unmade, left_to_do, passed_on, CallsOn, HoldsLongest, IsSame, KeepsRow, LeavesLess, SameRows, Stops}
 
@@ -111,9 +111,13 @@ pub row_once : (first before row : ℕ) (was mid now : Kept) → ((before ≡ fi
 row_once first before row was mid now (inl still) once read written = once.0 ∙ ap once_more still.0
 row_once first before row was mid now (inr moved) once read written = absurd (omega (arith, moved, once.1, read, written))
 
--- a wire whose row ended, and one that goes on with it
-pub row_ended : (before now : PollTold) → now.in_a_row ≡ 0 → now.longest ≡ before.longest → HoldsLongest before now
-row_ended before now none same = record { later = omega (arith, same); holds = λ h. omega (arith, none) }
+-- a wire whose row ended
+pub row_ended : (from to : Stage) (before now : PollTold) → now.in_a_row ≡ 0 → now.longest ≡ before.longest → HoldsLongest from to before now
+row_ended from to before now none same = record { later = omega (arith, same); holds = λ h a. omega (arith, none) }
+
+-- and whose rows are as they were then
+pub row_ended_on : (from to : Stage) (before mid now : PollTold) → mid.in_a_row ≡ 0 → mid.longest ≡ before.longest → SameRows mid now → HoldsLongest from to before now
+row_ended_on from to before mid now none same s = row_ended from to before now (s.row ∙ none) (s.longest ∙ same)
 
 greater_first : (a b : ℕ) → a ≤ greater a b
 greater_first a b = by_test (nat_lt a b) refl
@@ -129,18 +133,42 @@ greater_second a b = by_test (nat_lt a b) refl
     by_test true e = omega arith
     by_test false e = ltb-false a b e
 
-pub row_goes : (before now : PollTold) → now ≡ waited before → HoldsLongest before now
-row_goes before now e = subst (HoldsLongest before) (sym e) (record {
-  later = greater_first before.longest (once_more before.in_a_row);
-  holds = λ h. greater_second before.longest (once_more before.in_a_row);
-})
+-- a wire that could take nothing
+pub row_writes : (from to : Stage) (before now : PollTold) → now ≡ waited before now.longest → now.longest ≡ greater before.longest (once_more before.in_a_row)
+    → HoldsLongest from to before now
+row_writes from to before now e longest = record {
+  later = subst (λ n. before.longest ≤ n) (sym longest) (greater_first before.longest (once_more before.in_a_row));
+  holds = λ h a. subst (λ n. n ≤ now.longest) (sym (ap (λ (t : PollTold). t.in_a_row) e))
+      (subst (λ n. once_more before.in_a_row ≤ n) (sym longest) (greater_second before.longest (once_more before.in_a_row)));
+}
+
+reads_unanswering : IsAnswering Stages.Reads → ⊥
+reads_unanswering (inl (inl e)) = cc
+reads_unanswering (inl (inr e)) = cc
+reads_unanswering (inr e) = cc
+
+spent_unanswering : IsAnswering Stages.Spent → ⊥
+spent_unanswering (inl (inl e)) = cc
+spent_unanswering (inl (inr e)) = cc
+spent_unanswering (inr e) = cc
+
+-- one that could give nothing, which is to be read next
+pub row_reads : (from to : Stage) (before now : PollTold) → now.longest ≡ before.longest → to ≡ Stages.Reads → HoldsLongest from to before now
+row_reads from to before now same e =
+    record { later = omega (arith, same); holds = λ h a. absurd (reads_unanswering (subst IsAnswering e a)) }
+
+-- one that is spent
+pub row_spent : (from to : Stage) (before now : PollTold) → now.longest ≡ before.longest → to ≡ Stages.Spent → HoldsLongest from to before now
+row_spent from to before now same e =
+    record { later = omega (arith, same); holds = λ h a. absurd (spent_unanswering (subst IsAnswering e a)) }
 
 -- a wire whose rows are as they were, and calls in a row
-pub rows_kept : (before now : PollTold) → SameRows before now → HoldsLongest before now
-rows_kept before now s = let r = s.row in let l = s.longest in record { later = omega (arith, l); holds = λ h. omega (arith, r, l, h) }
+pub rows_kept : (from to : Stage) (before now : PollTold) → SameRows before now → (IsAnswering to → IsAnswering from) → HoldsLongest from to before now
+rows_kept from to before now s back = let r = s.row in let l = s.longest in
+    record { later = omega (arith, l); holds = λ h a. let within = h (back a) in omega (arith, r, l, within) }
 
-pub holds_on : (first before now : PollTold) → HoldsLongest first before → HoldsLongest before now → HoldsLongest first now
-holds_on first before now a b =
+pub holds_on : (s t u : Stage) (first before now : PollTold) → HoldsLongest s t first before → HoldsLongest t u before now → HoldsLongest s u first now
+holds_on s t u first before now a b =
     let x = a.later in let y = b.later in record { later = omega (arith, x, y); holds = λ h. b.holds (a.holds h) }
 
 -- ---- answers

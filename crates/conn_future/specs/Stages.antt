@@ -39,6 +39,10 @@ IsUnanswered stage = (stage ≡ Stages.Asks) ⊎ (stage ≡ Stages.Owes)
 abbrev pub IsMoving : Stage → Type 0
 IsMoving stage = (stage ≡ Stages.Reads) ⊎ (stage ≡ Stages.Writes)
 
+-- a request is whole, or a text goes out
+abbrev pub IsAnswering : Stage → Type 0
+IsAnswering stage = IsUnanswered stage ⊎ (stage ≡ Stages.Writes)
+
 -- a call of the wire failed
 abbrev pub IsFailed : Stage → Type 0
 IsFailed stage = (stage ≡ Stages.ReadFailed) ⊎ (stage ≡ Stages.WriteFailed)

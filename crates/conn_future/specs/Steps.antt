@@ -16,7 +16,7 @@ use Rattle.conn_future.specs.declared.stage.Standing.TheVariants as Stands
 use Rattle.conn_future.specs.declared.turn.Turn.{Turn}
 use Rattle.conn_future.specs.declared.turn.Turn.TheVariants as Turns
 use Rattle.conn_future.specs.declared.stage.Stage.{Stage}
-use Rattle.conn_future.specs.Stages.{IsMoving, IsUnanswered, IsOver, plain_ending}
+use Rattle.conn_future.specs.Stages.{IsMoving, IsUnanswered, IsAnswering, IsOver, plain_ending}
 use Rattle.conn_future.specs.Outgoing.{Outgoing}
 use Rattle.conn_future.specs.Talking.{Seen, plain, IsOut, IsTalking}
 
@@ -62,11 +62,11 @@ pub record SameRows (before now : PollTold) : Type 0 where
   pub row : now.in_a_row ≡ before.in_a_row
   pub longest : now.longest ≡ before.longest
 
--- The longest row in which a wire could move nothing did not fall, and its row up to now is no longer, if it was not
--- before.
-pub record HoldsLongest (before now : PollTold) : Type 0 where
+-- The longest row to which a write came did not fall. Where a request is whole or a text goes out, the row up to now is
+-- no longer than that, if it was not so before.
+pub record HoldsLongest (from to : Stage) (before now : PollTold) : Type 0 where
   pub later : before.longest ≤ now.longest
-  pub holds : before.in_a_row ≤ before.longest → now.in_a_row ≤ now.longest
+  pub holds : (IsAnswering from → before.in_a_row ≤ before.longest) → IsAnswering to → now.in_a_row ≤ now.longest
 
 -- what a connection has read and written is as it was, and where its reader is
 pub record IsSame (was now : Kept) : Type 0 where

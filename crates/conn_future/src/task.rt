@@ -3,7 +3,7 @@ ghost use Rattle.std.specs.Prelude.{◌≡◌, ◌≢◌, ◌≤◌, ◌++◌, �
 ghost use Rattle.outside_traits.specs.Told.{WireTold};
 ghost use Rattle.http_connection.specs.Talking.{handed};
 ghost use Rattle.conn_future.specs.declared.stage.Stage.TheVariants as Stages;
-ghost use Rattle.conn_future.specs.Stages.{stage_of, EndsPoll, IsAtRest, IsMoving};
+ghost use Rattle.conn_future.specs.Stages.{stage_of, EndsPoll, IsAnswering, IsAtRest, IsMoving};
 ghost use Rattle.conn_future.specs.Talking.{seen, IsTalking, TalksOn, StaysPrompt};
 ghost use Rattle.outside_polling.specs.Polls.{once_more, shut_so};
 
@@ -85,7 +85,11 @@ impl<W: PollWire> ConnTask<W> {
             → length self.new.kept.written.items ≡ length self.old.kept.written.items
             → (W.told self.new.wire).in_a_row ≡ once_more (W.told self.old.wire).in_a_row }
         ensures longest { (W.told self.old.wire).longest ≤ (W.told self.new.wire).longest }
-        ensures within { (W.told self.old.wire).in_a_row ≤ (W.told self.old.wire).longest
+        // Where a request is whole or a text goes out, its row is no longer than the longest that a write has come to.
+        ensures within {
+            (IsAnswering (stage_of self.old.kept.next)
+            → (W.told self.old.wire).in_a_row ≤ (W.told self.old.wire).longest)
+            → IsAnswering (stage_of self.new.kept.next)
             → (W.told self.new.wire).in_a_row ≤ (W.told self.new.wire).longest }
     {
         loop {

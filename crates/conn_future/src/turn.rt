@@ -47,7 +47,8 @@ pub(crate) fn take_turn<W: PollWire>(wire: &mut W, kept: &mut Kept) -> Result<Tu
     ensures less { IfOk result (λ turn. LeavesLess turn kept.old kept.new) }
     ensures row { IfOk result (λ turn. KeepsRow turn
         (W.told wire.old).in_a_row (W.told wire.new).in_a_row kept.old kept.new) }
-    ensures longest { HoldsLongest (W.told wire.old) (W.told wire.new) }
+    ensures longest { HoldsLongest (stage_of kept.old.next) (stage_of kept.new.next)
+        (W.told wire.old) (W.told wire.new) }
     ensures rests { IsAtRest (stage_of kept.old.next) → (kept.new ≡ kept.old) × (wire.new ≡ wire.old) }
     ensures owes { stage_of kept.new.next ≡ Stages.Owes → stage_of kept.old.next ≡ Stages.Owes }
 {
@@ -81,7 +82,8 @@ fn read_on<W: PollWire>(wire: &mut W, kept: &mut Kept) -> Result<Turn, AllocErro
     ensures less { IfOk result (λ turn. LeavesLess turn kept.old kept.new) }
     ensures row { IfOk result (λ turn. KeepsRow turn
         (W.told wire.old).in_a_row (W.told wire.new).in_a_row kept.old kept.new) }
-    ensures longest { HoldsLongest (W.told wire.old) (W.told wire.new) }
+    ensures longest { HoldsLongest (stage_of kept.old.next) (stage_of kept.new.next)
+        (W.told wire.old) (W.told wire.new) }
     ensures made { unmade kept.new.next ≡ 0 }
 {
     kept.stand(Standing::Spent);
@@ -135,7 +137,8 @@ fn write_on<W: PollWire>(wire: &mut W, kept: &mut Kept, close: bool) -> Result<T
     ensures less { IfOk result (λ turn. LeavesLess turn kept.old kept.new) }
     ensures row { IfOk result (λ turn. KeepsRow turn
         (W.told wire.old).in_a_row (W.told wire.new).in_a_row kept.old kept.new) }
-    ensures longest { HoldsLongest (W.told wire.old) (W.told wire.new) }
+    ensures longest { HoldsLongest (stage_of kept.old.next) (stage_of kept.new.next)
+        (W.told wire.old) (W.told wire.new) }
     ensures made { unmade kept.new.next ≡ 0 }
 {
     kept.stand(Standing::Spent);

@@ -68,7 +68,7 @@ impl PollWire for UnfailingPollWire {
         ensures reads { Polls result (polled told_by_unfailed self.old) (polled told_by_unfailed self.new)
             (λ answer. ReadsWire (length into.old) into.new answer) }
         ensures row { self.new.in_a_row ≡ row_after result self.old.in_a_row }
-        ensures longest { self.new.longest ≡ longest_after result self.old.longest self.old.in_a_row }
+        ensures longest { self.new.longest ≡ self.old.longest }
     {
         self.wire.try_read(into)
     }
@@ -152,7 +152,7 @@ impl PollWire for ScriptedPollWire {
         ensures reads { Polls result (polled told_by_scripted self.old) (polled told_by_scripted self.new)
             (λ answer. ReadsWire (length into.old) into.new answer) }
         ensures row { self.new.in_a_row ≡ row_after result self.old.in_a_row }
-        ensures longest { self.new.longest ≡ longest_after result self.old.longest self.old.in_a_row }
+        ensures longest { self.new.longest ≡ self.old.longest }
     {
         self.wire.try_read(into)
     }

@@ -3,7 +3,7 @@ use Rattle.std.specs.Prelude.{◌≡◌, ℕ, List}
 use Rattle.outside_polling.specs.Polls.{once_more}
 
 -- A wire whose calls of these numbers, from 0, come too early while it is open; how many calls it has had while it was,
--- how many of them came too early, how many in a row up to now, and how many in the longest row.
+-- how many of them came too early, how many in a row up to now, and how many in the longest row that a write came to.
 pub record Hasty (W : Type 0) : Type 0 where
   pub wire : W
   pub early : List ℕ

@@ -10,8 +10,8 @@ use Rattle.outside_polling.specs.declared.traits.Ready.{Ready}
 use Rattle.outside_polling.specs.declared.traits.Ready.TheVariants.{Done, NotYet}
 
 -- What is told of a wire that does not wait: what every wire tells, how often it has answered that it can move nothing
--- yet, how often in a row up to now, and how often in its longest row. An answer of that kind is none of its reads and
--- writes.
+-- yet, how often in a row up to now, and how often in the longest row that a write has come to. An answer of that kind is
+-- none of its reads and writes.
 pub record PollTold : Type 0 where
   pub wire : WireTold
   pub waits : ℕ
@@ -26,15 +26,13 @@ once_more before = min (before + 1) (2 ^ 64 - 1)
 abbrev pub greater : ℕ → ℕ → ℕ
 greater a b = if nat_lt a b then b else a
 
--- the wire answered once more that it can move nothing yet, and did nothing else
-abbrev pub waited : PollTold → PollTold
-waited wire = record wire {
-  waits = once_more wire.waits;
-  in_a_row = once_more wire.in_a_row;
-  longest = greater wire.longest (once_more wire.in_a_row);
-}
+-- the wire answered once more that it can move nothing yet, and did nothing else; its longest row is this by now
+abbrev pub waited : PollTold → ℕ → PollTold
+waited wire longest =
+    record wire { waits = once_more wire.waits; in_a_row = once_more wire.in_a_row; longest = longest }
 
--- how often in its longest row it has answered so after an answer, where it was so long and the row up to now so long
+-- how often in the longest row that a write has come to, after an answer to a write, where it was so long and the row up
+-- to now so long
 abbrev pub longest_after : {E : Type 0} → Result Ready E → ℕ → ℕ → ℕ
 longest_after (Ok (Done count)) longest before = longest
 longest_after (Ok NotYet) longest before = greater longest (once_more before)
@@ -61,7 +59,7 @@ done (Err cause) = Err cause
 abbrev pub Polls : {E : Type 0} → Result Ready E → PollTold → PollTold
     → (Result ℕ E → WireTold → WireTold → Type 0) → Type 0
 Polls (Ok (Done count)) before now Does = Does (Ok count) before.wire now.wire × (now.waits ≡ before.waits)
-Polls (Ok NotYet) before now Does = (before.wire.closed ≡ false) × (now ≡ waited before)
+Polls (Ok NotYet) before now Does = (before.wire.closed ≡ false) × (now ≡ waited before now.longest)
 Polls (Err cause) before now Does = Does (Err cause) before.wire now.wire × (now.waits ≡ before.waits)
 
 -- What a read did that had so much room, and left this in its buffer. Where there was room, 0 comes at the end of input

@@ -1,6 +1,7 @@
 ghost use Rattle.std.specs.Prelude.{◌≡◌, ◌↔◌, true, false, if◌then◌else◌, IsTrue, IfOk, Ok, Contains, length};
 ghost use Rattle.std.specs.Io.{ReadsAtMost, WritesAtMost};
-ghost use Rattle.outside_polling.specs.Polls.{done, greater, once_more, row_after, longest_after, Polls, ReadsWire, WritesWire};
+ghost use Rattle.outside_polling.specs.Polls as spec;
+ghost use Rattle.outside_polling.specs.Polls.{done, once_more, row_after, longest_after, Polls, ReadsWire, WritesWire};
 ghost use Rattle.outside_polling.specs.Early.{hasty, IsCalled};
 ghost use Rattle.outside_polling.specs.declared.traits.Ready.TheVariants.{NotYet};
 
@@ -80,8 +81,7 @@ impl<W: Wire + Drop> EarlyWire<W> {
         ensures waits { result ≡ true → self.new.waits ≡ once_more self.old.waits }
         ensures stays { result ≡ false → self.new.waits ≡ self.old.waits }
         ensures row { self.new.in_a_row ≡ (if result then once_more self.old.in_a_row else 0) }
-        ensures longest { self.new.longest
-            ≡ (if result then greater self.old.longest (once_more self.old.in_a_row) else self.old.longest) }
+        ensures longest { self.new.longest ≡ self.old.longest }
         ensures called { (W.told self.old.wire).closed ≡ false → IsCalled self.old self.new }
     {
         if self.closed {
@@ -94,9 +94,6 @@ impl<W: Wire + Drop> EarlyWire<W> {
         if is_early {
             self.waits = self.waits.saturating_add(1);
             self.in_a_row = self.in_a_row.saturating_add(1);
-            if self.longest < self.in_a_row {
-                self.longest = self.in_a_row;
-            }
         } else {
             self.in_a_row = 0;
         }
@@ -132,7 +129,7 @@ impl<W: Wire + Drop> PollWire for EarlyWire<W> {
             })
             (λ answer. ReadsWire (length into.old) into.new answer) }
         ensures row { self.new.in_a_row ≡ row_after result self.old.in_a_row }
-        ensures longest { self.new.longest ≡ longest_after result self.old.longest self.old.in_a_row }
+        ensures longest { self.new.longest ≡ self.old.longest }
     {
         if self.comes_early() {
             return Ok(Ready::NotYet);
@@ -164,6 +161,7 @@ impl<W: Wire + Drop> PollWire for EarlyWire<W> {
         ensures longest { self.new.longest ≡ longest_after result self.old.longest self.old.in_a_row }
     {
         if self.comes_early() {
+            self.longest = greater(self.longest, self.in_a_row);
             return Ok(Ready::NotYet);
         }
         let count = self.wire.write(from)?;
@@ -174,4 +172,14 @@ impl<W: Wire + Drop> PollWire for EarlyWire<W> {
         self.wire.close();
         self.closed = true;
     }
+}
+
+/// The greater of two counts.
+fn greater(a: u64, b: u64) -> u64
+    ensures { result ≡ spec.greater a b }
+{
+    if a < b {
+        return b;
+    }
+    a
 }

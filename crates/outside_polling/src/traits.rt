@@ -23,8 +23,7 @@ pub trait PollWire {
         ensures reads { Polls result (told self.old) (told self.new)
             (λ answer. ReadsWire (length into.old) into.new answer) }
         ensures row { (told self.new).in_a_row ≡ row_after result (told self.old).in_a_row }
-        ensures longest { (told self.new).longest
-            ≡ longest_after result (told self.old).longest (told self.old).in_a_row };
+        ensures longest { (told self.new).longest ≡ (told self.old).longest };
 
     /// Takes a prefix of the bytes, if there is room for some.
     fn try_write(&mut self, from: &[u8]) -> Result<Ready, Failed>

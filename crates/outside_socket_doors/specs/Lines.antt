@@ -5,8 +5,8 @@ use Rattle.outside_polling.specs.declared.traits.Ready.{Ready}
 use Rattle.outside_polling.specs.declared.traits.Ready.TheVariants.{Done, NotYet}
 
 -- a connection over a socket: whether a read of it has failed, whether a write has before it was closed, whether a read
--- told the end, whether it is closed, how often it could move nothing yet, in a row up to now and in the longest
--- row, and at which door it came
+-- told the end, whether it is closed, how often it could move nothing yet, in a row up to now and in the longest row
+-- that a write has come to, and at which door it came
 pub record LineTold : Type 0 where
   pub read_failed : Bool
   pub write_failed : Bool

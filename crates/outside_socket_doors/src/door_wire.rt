@@ -80,7 +80,7 @@ impl<H: Net + Clock + Eprint + Copy + Drop> DoorWire<H> {
         self.in_a_row
     }
 
-    /// How often in its longest row.
+    /// How often in the longest row that a write has come to.
     pub fn longest(&self) -> u64
         ensures { result ≡ self.now.longest }
     {
@@ -113,12 +113,10 @@ impl<H: Net + Clock + Eprint + Copy + Drop> DoorWire<H> {
         ensures { self.new ≡ record self.old {
           waits = spec.once_more self.old.waits;
           in_a_row = spec.once_more self.old.in_a_row;
-          longest = spec.greater self.old.longest (spec.once_more self.old.in_a_row);
         } }
     {
         self.waits = self.waits.saturating_add(1);
         self.in_a_row = self.in_a_row.saturating_add(1);
-        self.longest = greater(self.longest, self.in_a_row);
     }
 }
 
@@ -156,7 +154,10 @@ impl<H: Net + Clock + Eprint + Copy + Drop> PollWire for DoorWire<H> {
         let answer = line.try_write(from);
         match answer {
             Ok(Ready::Done(_)) => self.in_a_row = 0,
-            Ok(Ready::NotYet) => self.add_wait(),
+            Ok(Ready::NotYet) => {
+                self.add_wait();
+                self.longest = greater(self.longest, self.in_a_row);
+            }
             Err(Failed) => {
                 self.in_a_row = 0;
                 self.cut = true;

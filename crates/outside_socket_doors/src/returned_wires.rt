@@ -79,7 +79,7 @@ impl ReturnedWire {
         self.in_a_row
     }
 
-    /// How often in its longest row.
+    /// How often in the longest row that a write had come to.
     pub fn longest(&self) -> u64
         ensures { result ≡ self.now.longest }
     {

@@ -1,7 +1,7 @@
 -- What passed with a front, by what its doors and connections are once all that is due is written.
 use Rattle.std.proofs.Common.{◌≡◌, refl, sym, ap, ap₂, ◌∙◌, subst, arith, ℕ, suc, ◌+◌, ◌-◌, ◌^◌, ◌≤◌, min, Bool, true, false, cond, ◌&&◌, ◌||◌, inl, inr, List, [], ◌∷◌, length, map, count_by, nat_lt, nat_le}
 use Rattle.std.specs.List.{list_all, list_any, sum_by}
-use Rattle.std.proofs.lemmas.Bool.{leb-true, true≢false}
+use Rattle.std.proofs.lemmas.Bool.{true≢false}
 use Rattle.std.proofs.lemmas.List.Sums.{sum_by-cons}
 use Rattle.behaviour_tree.specs.Data.{ProgramParts}
 use Rattle.outside_doors.specs.Counts.{has_ended}
@@ -9,10 +9,11 @@ use Rattle.run_theorem.specs.Exchange.{Exchange}
 use Rattle.run_theorem.specs.RunConnections.{RunConnection}
 use Rattle.conn_future.specs.Stages.{IsOver}
 use Rattle.outside_traits.specs.Told.{SinkTold, WireTold}
-use Rattle.run_door_front.specs.Keeping.{is_led, lead_of, leads_of, ListenerTold, ClientTold, Keeping, stage_at, services_of, rests_at, rests_in_a_row_at, is_quiet, wires_to}
+use Rattle.run_door_front.specs.Keeping.{is_led, lead_of, leads_of, ListenerTold, ClientTold, Keeping, stage_at, services_of, rests_at, rests_in_a_row_at, is_quiet, wires_to, IsWithin}
 use Rattle.run_door_front.specs.Exchanged.{most_open, Pause, for_answer, for_wire, for_room, at_end, is_for_wire, is_unended, AreClients, row_of, WasPaused, WerePaused, HadNone, PausedSo, Sides, sides_of, HasExchanged}
 use Rattle.run_door_front.specs.NextSteps.{HasNotFallen, ClientGoesOn, ClientsGoOn, wires_of, service_of, place_of}
-use Rattle.run_door_front.specs.Draining.{AreRested}
+use Rattle.run_door_front.specs.Draining.{is_writing, AreRested, HaveStayed}
+use Rattle.run_door_front.proofs.Drained.{writes_is}
 use Rattle.run_door_front.proofs.Entries.{one_if, count_cons}
 use Rattle.run_door_front.proofs.Doors.{sum_not_fallen, not_fallen}
 use Rattle.run_door_front.proofs.Links.{clients-long, links-same, links-on}
@@ -68,10 +69,10 @@ rows_rested (p ∷ ps) (q ∷ qs) g =
 
 -- ---- connections that went on
 
--- no wire has answered more often in a row than in its longest row
+-- where a text goes out the row of a wire is no longer than the longest to which a write came
 abbrev AreWithin : List ClientTold → Type 0
 AreWithin [] = Unit {0}
-AreWithin (l ∷ ls) = (l.in_a_row ≤ l.longest) × AreWithin ls
+AreWithin (l ∷ ls) = IsWithin l × AreWithin ls
 
 are_within : (IsMade : WireTold → Type 0) (ls : List ClientTold) (vs : List RunConnection) → AreClients IsMade ls vs → AreWithin ls
 are_within IsMade [] [] a = tt
@@ -79,66 +80,67 @@ are_within IsMade [] (v ∷ vs) a = absurd a
 are_within IsMade (l ∷ ls) [] a = absurd a
 are_within IsMade (l ∷ ls) (v ∷ vs) a = (a.0.row, are_within IsMade ls vs a.1)
 
--- why nothing came of a connection, by how it is once what is due is written
-abbrev pause_then : ℕ → Pause → ClientTold → Pause
-pause_then row for_answer m = for_answer
-pause_then row for_wire m = cond (nat_le row m.in_a_row) for_wire for_room
-pause_then row for_room m = for_room
-pause_then row at_end m = at_end
+-- why nothing came of a connection, once what is due is written
+abbrev pause_then : Pause → ClientTold → Pause
+pause_then for_answer l = for_answer
+pause_then for_wire l = cond (is_writing l) for_room for_wire
+pause_then for_room l = for_room
+pause_then at_end l = at_end
 
-abbrev pauses_then : ℕ → List Pause → List ClientTold → List Pause
-pauses_then row [] ms = []
-pauses_then row (p ∷ ps) [] = p ∷ ps
-pauses_then row (p ∷ ps) (m ∷ ms) = pause_then row p m ∷ pauses_then row ps ms
+abbrev pauses_then : List Pause → List ClientTold → List Pause
+pauses_then [] ls = []
+pauses_then (p ∷ ps) [] = p ∷ ps
+pauses_then (p ∷ ps) (l ∷ ls) = pause_then p l ∷ pauses_then ps ls
 
 -- a test that does not tell whether a wire has room finds them as before
-same_test : (test : Pause → Bool) → test for_room ≡ test for_wire → (row : ℕ) (p : Pause) (m : ClientTold) → test (pause_then row p m) ≡ test p
-same_test test e row for_answer m = refl
-same_test test e row for_wire m = at (nat_le row m.in_a_row)
+same_test : (test : Pause → Bool) → test for_room ≡ test for_wire → (p : Pause) (l : ClientTold) → test (pause_then p l) ≡ test p
+same_test test e for_answer l = refl
+same_test test e for_wire l = at (is_writing l)
   where
-    at : (b : Bool) → test (cond b for_wire for_room) ≡ test for_wire
-    at true = refl
-    at false = e
-same_test test e row for_room m = refl
-same_test test e row at_end m = refl
+    at : (b : Bool) → test (cond b for_room for_wire) ≡ test for_wire
+    at true = e
+    at false = refl
+same_test test e for_room l = refl
+same_test test e at_end l = refl
 
-any_then : (test : Pause → Bool) → test for_room ≡ test for_wire → (row : ℕ) (ps : List Pause) (ms : List ClientTold)
-    → list_any test (pauses_then row ps ms) ≡ list_any test ps
-any_then test e row [] ms = refl
-any_then test e row (p ∷ ps) [] = refl
-any_then test e row (p ∷ ps) (m ∷ ms) = ap₂ (λ a b. a || b) (same_test test e row p m) (any_then test e row ps ms)
+any_then : (test : Pause → Bool) → test for_room ≡ test for_wire → (ps : List Pause) (ls : List ClientTold)
+    → list_any test (pauses_then ps ls) ≡ list_any test ps
+any_then test e [] ls = refl
+any_then test e (p ∷ ps) [] = refl
+any_then test e (p ∷ ps) (l ∷ ls) = ap₂ (λ a b. a || b) (same_test test e p l) (any_then test e ps ls)
 
-count_then : (test : Pause → Bool) → test for_room ≡ test for_wire → (row : ℕ) (ps : List Pause) (ms : List ClientTold)
-    → count_by test (pauses_then row ps ms) ≡ count_by test ps
-count_then test e row [] ms = refl
-count_then test e row (p ∷ ps) [] = refl
-count_then test e row (p ∷ ps) (m ∷ ms) =
-    count_cons test (pause_then row p m) (pauses_then row ps ms)
-    ∙ ap₂ (λ (b : Bool) (n : ℕ). one_if b + n) (same_test test e row p m) (count_then test e row ps ms) ∙ sym (count_cons test p ps)
+count_then : (test : Pause → Bool) → test for_room ≡ test for_wire → (ps : List Pause) (ls : List ClientTold)
+    → count_by test (pauses_then ps ls) ≡ count_by test ps
+count_then test e [] ls = refl
+count_then test e (p ∷ ps) [] = refl
+count_then test e (p ∷ ps) (l ∷ ls) =
+    count_cons test (pause_then p l) (pauses_then ps ls)
+    ∙ ap₂ (λ (b : Bool) (n : ℕ). one_if b + n) (same_test test e p l) (count_then test e ps ls) ∙ sym (count_cons test p ps)
 
 -- with any last value of their type
 within_longest : (n a b c cap : ℕ) → min n cap ≤ a → a ≤ b → min b cap ≤ c → min n cap ≤ c
 within_longest n a b c cap h k l = omega arith
 
-paused_on : (d : Exchange) (k : ℕ) (p : Pause) (l m : ClientTold) → ClientGoesOn l m → l.in_a_row ≤ l.longest → WasPaused false d k p l
-    → WasPaused true d k (pause_then (row_of d) p m) m
-paused_on d k for_answer l m g r h = h
-paused_on d k for_wire l m g r h = at (nat_le (row_of d) m.in_a_row) refl
+paused_on : (d : Exchange) (k : ℕ) (p : Pause) (l m : ClientTold) → ClientGoesOn l m → (is_writing l ≡ false → m ≡ l) → IsWithin l
+    → WasPaused false d k p l → WasPaused true d k (pause_then p l) m
+paused_on d k for_answer l m g s r h = h
+paused_on d k for_wire l m g s r h = at (is_writing l) refl
   where
-    at : (b : Bool) → nat_le (row_of d) m.in_a_row ≡ b → WasPaused true d k (cond b for_wire for_room) m
-    at true e = (λ clash. absurd (true≢false clash), leb-true (row_of d) m.in_a_row e)
-    at false e = (refl, within_longest d.received.waits l.in_a_row l.longest m.longest (2 ^ 64 - 1) h.1 r g.longest)
-paused_on d k for_room l m g r h = absurd (true≢false (sym h.0))
-paused_on d k at_end l m g r h = subst (λ (x : ClientTold). IsOver (stage_at x)) (sym (g.rests (inr h))) h
+    at : (b : Bool) → is_writing l ≡ b → WasPaused true d k (cond b for_room for_wire) m
+    at true e = (refl, within_longest d.received.waits l.in_a_row l.longest m.longest (2 ^ 64 - 1) h.1 (r (inr (writes_is (stage_at l) e))) g.longest)
+    at false e = subst (WasPaused true d k for_wire) (sym (s e)) h
+paused_on d k for_room l m g s r h = absurd (true≢false (sym h.0))
+paused_on d k at_end l m g s r h = subst (λ (x : ClientTold). IsOver (stage_at x)) (sym (g.rests (inr h))) h
 
-all_paused_on : (d : Exchange) (k : ℕ) (ps : List Pause) (ls ms : List ClientTold) → ClientsGoOn ls ms → AreWithin ls → WerePaused false d k ps ls
-    → WerePaused true d k (pauses_then (row_of d) ps ms) ms
-all_paused_on d k [] [] [] g r h = tt
-all_paused_on d k [] [] (m ∷ ms) g r h = absurd g
-all_paused_on d k [] (l ∷ ls) ms g r h = absurd h
-all_paused_on d k (p ∷ ps) [] ms g r h = absurd h
-all_paused_on d k (p ∷ ps) (l ∷ ls) [] g r h = absurd g
-all_paused_on d k (p ∷ ps) (l ∷ ls) (m ∷ ms) g r h = (paused_on d k p l m g.0 r.0 h.0, all_paused_on d (suc k) ps ls ms g.1 r.1 h.1)
+all_paused_on : (d : Exchange) (k : ℕ) (ps : List Pause) (ls ms : List ClientTold) → ClientsGoOn ls ms → HaveStayed ls ms → AreWithin ls
+    → WerePaused false d k ps ls → WerePaused true d k (pauses_then ps ls) ms
+all_paused_on d k [] [] [] g s r h = tt
+all_paused_on d k [] [] (m ∷ ms) g s r h = absurd g
+all_paused_on d k [] (l ∷ ls) ms g s r h = absurd h
+all_paused_on d k (p ∷ ps) [] ms g s r h = absurd h
+all_paused_on d k (p ∷ ps) (l ∷ ls) [] g s r h = absurd g
+all_paused_on d k (p ∷ ps) (l ∷ ls) (m ∷ ms) g s r h =
+    (paused_on d k p l m g.0 s.0 r.0 h.0, all_paused_on d (suc k) ps ls ms g.1 s.1 r.1 h.1)
 
 -- with any last value of their type
 pub since : (n a b cap : ℕ) → min n cap ≤ a → min a cap ≤ b → min n cap ≤ b
@@ -147,7 +149,7 @@ since n a b cap h k = omega arith
 -- ---- all of it
 
 module _ (IsMade : WireTold → Type 0) (parts : ProgramParts) (first : Sides) (now : Keeping) (notes : SinkTold) (d : Exchange) (doors : List ListenerTold) (links : List ClientTold)
-    (rested : AreRested now.doors doors) (goes : ClientsGoOn now.connections links) where
+    (rested : AreRested now.doors doors) (goes : ClientsGoOn now.connections links) (stayed : HaveStayed now.connections links) where
   -- what the front keeps then
   abbrev pub later : Keeping
   later = record now { doors = doors; connections = links }
@@ -169,16 +171,16 @@ module _ (IsMade : WireTold → Type 0) (parts : ProgramParts) (first : Sides) (
 
     none_later : HadNone false now d → HadNone true later d
     none_later n = record {
-      pauses = pauses_then (row_of d) n.pauses links;
-      each = all_paused_on d 0 n.pauses now.connections links goes (are_within IsMade now.connections f.connections f.clients) n.each;
+      pauses = pauses_then n.pauses now.connections;
+      each = all_paused_on d 0 n.pauses now.connections links goes stayed (are_within IsMade now.connections f.connections f.clients) n.each;
       over = λ ended. (
         ap₂ (λ (k : ℕ) (b : Bool). nat_le now.most k || b) long (all_rested (λ (p : ListenerTold). has_ended p.door) (λ p n m. refl) now.doors doors rested) ∙ (n.over ended).0,
-        any_then is_for_wire refl (row_of d) n.pauses links ∙ (n.over ended).1,
+        any_then is_for_wire refl n.pauses now.connections ∙ (n.over ended).1,
       );
       rested = since d.received.waits (rests_in_a_row_at now.doors) (rests_in_a_row_at doors) (2 ^ 64 - 1) n.rested (rows_rested now.doors doors rested);
       quiet = elim n.quiet [
         | inl full ↦ inl (
-            ap₂ (λ (k : ℕ) (c : ℕ). nat_le now.most k || nat_le most_open c) long (count_then is_unended refl (row_of d) n.pauses links) ∙ full)
+            ap₂ (λ (k : ℕ) (c : ℕ). nat_le now.most k || nat_le most_open c) long (count_then is_unended refl n.pauses now.connections) ∙ full)
         | inr all ↦ inr (all_rested (is_quiet (row_of d)) (λ p n m. refl) now.doors doors rested ∙ all)
       ];
     }

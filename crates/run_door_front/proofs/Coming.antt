@@ -44,7 +44,7 @@ new_link-at IsMade line link made f pending row stage talks = record {
   pending = pending;
   unowed = λ e. (let clash : Stages.Reads ≡ Stages.Owes = sym stage ∙ e in cc);
   memory = λ e. (let clash : Stages.Reads ≡ Stages.Spent = sym stage ∙ e in cc);
-  row = within link.in_a_row link.longest row;
+  row = λ a. within link.in_a_row link.longest row;
   first = line;
   made = made;
   fresh = new_line line f;

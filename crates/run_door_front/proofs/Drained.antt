@@ -12,14 +12,14 @@ use Rattle.conn_future.specs.Stages.{IsOver, IsUnanswered}
 use Rattle.run_door_front.specs.Keeping.{ListenerTold, ClientTold, Keeping, stage_at, rests_at}
 use Rattle.run_door_front.specs.NextSteps.{ClientsGoOn, IsPolled, rested_at, rested_first, rested_open, after_rest}
 use Rattle.run_door_front.specs.Moving.{has_moved, any_moved, HasWaited}
-use Rattle.run_door_front.specs.Draining.{writes_at, is_writing, any_writing, WritesOn, AreWritten, has_drained, HaveDrained, AreRested, most_rests, Drains}
+use Rattle.run_door_front.specs.Draining.{writes_at, is_writing, any_writing, WritesOn, AreWritten, HasDrained, HaveDrained, HaveStayed, AreRested, most_rests, Drains}
 use Rattle.run_door_front.proofs.Entries.{nat_eq_same, nat_eq_is}
 use Rattle.run_door_front.proofs.Doors.{not_fallen, not_fallen-added, fallen_further}
 use Rattle.run_door_front.proofs.Links.{client-same, clients-same, clients-further}
 use Rattle.run_door_front.proofs.Moving.{or_further}
 use Rattle.run_door_front.proofs.Resting.{rests-rested}
 
-writes_is : (s : Stage) → writes_at s ≡ true → s ≡ Stages.Writes
+pub writes_is : (s : Stage) → writes_at s ≡ true → s ≡ Stages.Writes
 writes_is Stages.Reads e = absurd (true≢false (sym e))
 writes_is Stages.Asks e = absurd (true≢false (sym e))
 writes_is Stages.Owes e = absurd (true≢false (sym e))
@@ -39,6 +39,7 @@ writes_not s e is = true≢false (sym (ap writes_at is) ∙ e)
 pub writes-same : (l : ClientTold) → is_writing l ≡ false → WritesOn l l
 writes-same l e = record {
   goes = client-same l;
+  idle = λ _. refl;
   wrote = λ w. w;
   waits = λ w. absurd (true≢false (sym w ∙ e));
   row = λ w still. absurd (true≢false (sym w ∙ e));
@@ -48,6 +49,7 @@ writes-same l e = record {
 pub writes-polled : (l m : ClientTold) → is_writing l ≡ true → IsPolled l m → HasWaited l m → WritesOn l m
 writes-polled l m writes p waited = record {
   goes = p.goes;
+  idle = λ still. absurd (true≢false (sym writes ∙ still));
   wrote = λ w. writes;
   waits = λ w. one_more (added l.waits 1 ≤ m.waits) (writes_is (stage_at m) w) p.paused;
   row = λ w still. one_more (added l.in_a_row 1 ≤ m.in_a_row) (writes_is (stage_at m) w) (waited still);
@@ -70,14 +72,40 @@ written_go [] (n ∷ ns) w = absurd w
 written_go (m ∷ ms) [] w = absurd w
 written_go (m ∷ ms) (n ∷ ns) w = (w.0.goes, written_go ms ns w.1)
 
--- where a text still goes out the wire could move nothing so often in a row
-abbrev pub AllRows : ℕ → List ClientTold → Type 0
-AllRows still [] = Unit {0}
-AllRows still (m ∷ ms) = (is_writing m ≡ true → still ≤ m.in_a_row) × AllRows still ms
+-- those on which no text went out stay
+pub stayed-same : (ls : List ClientTold) → HaveStayed ls ls
+stayed-same [] = tt
+stayed-same (l ∷ ls) = (λ _. refl, stayed-same ls)
 
-rows_none : (ms : List ClientTold) → AllRows 0 ms
-rows_none [] = tt
-rows_none (m ∷ ms) = (λ w. (omega arith), rows_none ms)
+stayed_further : (ls ms ns : List ClientTold) → HaveStayed ls ms → AreWritten ms ns → HaveStayed ls ns
+stayed_further [] [] [] s w = tt
+stayed_further [] [] (n ∷ ns) s w = w
+stayed_further [] (m ∷ ms) ns s w = absurd s
+stayed_further (l ∷ ls) [] ns s w = absurd s
+stayed_further (l ∷ ls) (m ∷ ms) [] s w = w
+stayed_further (l ∷ ls) (m ∷ ms) (n ∷ ns) s w =
+    (λ still. w.0.idle (ap is_writing (s.0 still) ∙ still) ∙ s.0 still, stayed_further ls ms ns s.1 w.1)
+
+-- where a text still goes out the wire could move nothing so often since, and so often in a row
+abbrev pub HasRows : ℕ → ClientTold → ClientTold → Type 0
+HasRows still l m = is_writing m ≡ true → (added l.waits still ≤ m.waits) × (still ≤ m.in_a_row)
+
+-- the same of each
+abbrev pub AllRows : ℕ → List ClientTold → List ClientTold → Type 0
+AllRows still [] [] = Unit {0}
+AllRows still [] (m ∷ ms) = ⊥
+AllRows still (l ∷ ls) [] = ⊥
+AllRows still (l ∷ ls) (m ∷ ms) = HasRows still l m × AllRows still ls ms
+
+-- with any last value of their type
+none_since : (a b cap : ℕ) → min a cap ≤ b → min (a + 0) cap ≤ b
+none_since a b cap h = omega arith
+
+rows_none : (ls ms : List ClientTold) → ClientsGoOn ls ms → AllRows 0 ls ms
+rows_none [] [] g = tt
+rows_none [] (m ∷ ms) g = g
+rows_none (l ∷ ls) [] g = g
+rows_none (l ∷ ls) (m ∷ ms) g = (λ w. (none_since l.waits m.waits (2 ^ 64 - 1) g.0.waits, omega arith), rows_none ls ms g.1)
 
 neither : (a b : Bool) → a || b ≡ false → (a ≡ false) × (b ≡ false)
 neither true b e = absurd (true≢false e)
@@ -87,29 +115,42 @@ neither false b e = (refl, e)
 row_more : (still row now most cap : ℕ) → still ≤ row → min (row + 1) cap ≤ now → suc still ≤ most → most ≤ cap → suc still ≤ now
 row_more still row now most cap h k l m = omega arith
 
-rows_more : (still most : ℕ) (ms ns : List ClientTold) → suc still ≤ most → most ≤ 2 ^ 64 - 1 → AllRows still ms → AreWritten ms ns → any_moved ms ns ≡ false → AllRows (suc still) ns
-rows_more still most [] [] few small r w none = tt
-rows_more still most [] (n ∷ ns) few small r w none = absurd w
-rows_more still most (m ∷ ms) [] few small r w none = absurd w
-rows_more still most (m ∷ ms) (n ∷ ns) few small r w none =
+waits_more : (still was waits now cap : ℕ) → min (was + still) cap ≤ waits → min (waits + 1) cap ≤ now → min (was + suc still) cap ≤ now
+waits_more still was waits now cap h k = omega arith
+
+rows_more : (still most : ℕ) (ls ms ns : List ClientTold) → suc still ≤ most → most ≤ 2 ^ 64 - 1 → AllRows still ls ms → AreWritten ms ns
+    → any_moved ms ns ≡ false → AllRows (suc still) ls ns
+rows_more still most [] [] [] few small r w none = tt
+rows_more still most [] [] (n ∷ ns) few small r w none = w
+rows_more still most [] (m ∷ ms) ns few small r w none = absurd r
+rows_more still most (l ∷ ls) [] ns few small r w none = absurd r
+rows_more still most (l ∷ ls) (m ∷ ms) [] few small r w none = w
+rows_more still most (l ∷ ls) (m ∷ ms) (n ∷ ns) few small r w none =
     let both = neither (has_moved m n) (any_moved ms ns) none in (
-      λ e. row_more still m.in_a_row n.in_a_row most (2 ^ 64 - 1) (r.0 (w.0.wrote e)) (w.0.row e both.0) few small,
-      rows_more still most ms ns few small r.1 w.1 both.1,
+      λ e. let had = r.0 (w.0.wrote e) in (
+        waits_more still l.waits m.waits n.waits (2 ^ 64 - 1) had.0 (w.0.waits e),
+        row_more still m.in_a_row n.in_a_row most (2 ^ 64 - 1) had.1 (w.0.row e both.0) few small,
+      ),
+      rows_more still most ls ms ns few small r.1 w.1 both.1,
     )
 
 -- no text goes out
-none_writes : (ms : List ClientTold) → any_writing ms ≡ false → HaveDrained ms
-none_writes [] e = tt
-none_writes (m ∷ ms) e =
+none_writes : (ls ms : List ClientTold) → ClientsGoOn ls ms → any_writing ms ≡ false → HaveDrained ls ms
+none_writes [] [] g e = tt
+none_writes [] (m ∷ ms) g e = g
+none_writes (l ∷ ls) [] g e = g
+none_writes (l ∷ ls) (m ∷ ms) g e =
     let both = neither (is_writing m) (any_writing ms) e in
-    (inl (writes_not (stage_at m) both.0), none_writes ms both.1)
+    (inl (writes_not (stage_at m) both.0), none_writes ls ms g.1 both.1)
 
 -- or nothing moved for too long
-all_still : (ms : List ClientTold) → AllRows most_waits ms → HaveDrained ms
-all_still [] r = tt
-all_still (m ∷ ms) r = (at (is_writing m) refl, all_still ms r.1)
+all_still : (ls ms : List ClientTold) → AllRows most_waits ls ms → HaveDrained ls ms
+all_still [] [] r = tt
+all_still [] (m ∷ ms) r = r
+all_still (l ∷ ls) [] r = r
+all_still (l ∷ ls) (m ∷ ms) r = (at (is_writing m) refl, all_still ls ms r.1)
   where
-    at : (b : Bool) → is_writing m ≡ b → has_drained m
+    at : (b : Bool) → is_writing m ≡ b → HasDrained l m
     at true is = inr (r.0 is)
     at false is = inl (writes_not (stage_at m) is)
 
@@ -117,15 +158,23 @@ all_still (m ∷ ms) r = (at (is_writing m) refl, all_still ms r.1)
 fewer_row : (still row now most cap : ℕ) → still ≡ most → still ≤ row → min (row + 1) cap ≤ now → most ≤ cap → most ≤ now
 fewer_row still row now most cap e h k m = omega arith
 
-rows_still : (still : ℕ) (ms ns : List ClientTold) → still ≡ most_waits → most_waits ≤ 2 ^ 64 - 1 → AllRows still ms → AreWritten ms ns → any_moved ms ns ≡ false
-    → AllRows most_waits ns
-rows_still still [] [] is small r w none = tt
-rows_still still [] (n ∷ ns) is small r w none = absurd w
-rows_still still (m ∷ ms) [] is small r w none = absurd w
-rows_still still (m ∷ ms) (n ∷ ns) is small r w none =
+fewer_waits : (still was waits now most cap : ℕ) → still ≡ most → min (was + still) cap ≤ waits → min (waits + 1) cap ≤ now → min (was + most) cap ≤ now
+fewer_waits still was waits now most cap e h k = omega arith
+
+rows_still : (still : ℕ) (ls ms ns : List ClientTold) → still ≡ most_waits → most_waits ≤ 2 ^ 64 - 1 → AllRows still ls ms → AreWritten ms ns
+    → any_moved ms ns ≡ false → AllRows most_waits ls ns
+rows_still still [] [] [] is small r w none = tt
+rows_still still [] [] (n ∷ ns) is small r w none = w
+rows_still still [] (m ∷ ms) ns is small r w none = absurd r
+rows_still still (l ∷ ls) [] ns is small r w none = absurd r
+rows_still still (l ∷ ls) (m ∷ ms) [] is small r w none = w
+rows_still still (l ∷ ls) (m ∷ ms) (n ∷ ns) is small r w none =
     let both = neither (has_moved m n) (any_moved ms ns) none in (
-      λ e. fewer_row still m.in_a_row n.in_a_row most_waits (2 ^ 64 - 1) is (r.0 (w.0.wrote e)) (w.0.row e both.0) small,
-      rows_still still ms ns is small r.1 w.1 both.1,
+      λ e. let had = r.0 (w.0.wrote e) in (
+        fewer_waits still l.waits m.waits n.waits most_waits (2 ^ 64 - 1) is had.0 (w.0.waits e),
+        fewer_row still m.in_a_row n.in_a_row most_waits (2 ^ 64 - 1) is had.1 (w.0.row e both.0) small,
+      ),
+      rows_still still ls ms ns is small r.1 w.1 both.1,
     )
 
 -- ---- doors that are rested at
@@ -209,7 +258,8 @@ pub record Draining (left still : ℕ) (first doors : List ListenerTold) (ls ms 
   pub rested : AreRested first doors
   pub since : 0 < length first → added (rests_at first) rests ≤ rests_at doors
   pub goes : ClientsGoOn ls ms
-  pub rows : AllRows still ms
+  pub stayed : HaveStayed ls ms
+  pub rows : AllRows still ls ms
 
 pub draining-none : (left : ℕ) (doors : List ListenerTold) (ls : List ClientTold) → left ≡ most_rests → Draining left 0 doors doors ls ls
 draining-none left doors ls all = record {
@@ -220,7 +270,8 @@ draining-none left doors ls all = record {
   rested = rested-same doors;
   since = λ some. none_added (rests_at doors) (2 ^ 64 - 1);
   goes = clients-same ls;
-  rows = rows_none ls;
+  stayed = stayed-same ls;
+  rows = rows_none ls ls (clients-same ls);
 }
   where
     zero_plus : (n : ℕ) → 0 + n ≡ n
@@ -241,6 +292,9 @@ module _ (left still : ℕ) (first doors : List ListenerTold) (ls ms ns : List C
     (moved : Bool) (is_moved : moved ≡ any_moved ms ns) where
   goes_now : ClientsGoOn ls ns
   goes_now = clients-further ls ms ns d.goes (written_go ms ns w)
+
+  stayed_now : HaveStayed ls ns
+  stayed_now = stayed_further ls ms ns d.stayed w
 
   -- a rest more
   pub draining-more : (quiet : Bool) → quiet ≡ (not moved && nat_eq still most_waits) → quiet ≡ false → (left ≡ 0 → ⊥) → (later : List ListenerTold)
@@ -278,7 +332,8 @@ module _ (left still : ℕ) (first doors : List ListenerTold) (ls ms ns : List C
         rested = rested_now;
         since = since_now;
         goes = goes_now;
-        rows = rows_none ns;
+        stayed = stayed_now;
+        rows = rows_none ls ns goes_now;
       }
       by_moved false so loud =
           let few : suc still ≤ most_waits = fewer still most_waits d.bound loud in
@@ -290,7 +345,8 @@ module _ (left still : ℕ) (first doors : List ListenerTold) (ls ms ns : List C
             rested = rested_now;
             since = since_now;
             goes = goes_now;
-            rows = rows_more still most_waits ms ns few small d.rows w (sym so);
+            stayed = stayed_now;
+            rows = rows_more still most_waits ls ms ns few small d.rows w (sym so);
           }
 
   module _ (halted : Bool) (running : halted ≡ false) where
@@ -299,7 +355,8 @@ module _ (left still : ℕ) (first doors : List ListenerTold) (ls ms ns : List C
     draining-written writes is none = record {
       doors = d.rested;
       connections = goes_now;
-      drained = λ _. inl (none_writes ns (sym is ∙ none));
+      stayed = stayed_now;
+      drained = λ _. inl (none_writes ls ns goes_now (sym is ∙ none));
       rests = λ _ writing. absurd (true≢false (sym writing ∙ sym is ∙ none));
       undone = λ stopped. absurd (true≢false (sym stopped ∙ running));
     }
@@ -309,6 +366,7 @@ module _ (left still : ℕ) (first doors : List ListenerTold) (ls ms ns : List C
     draining-through why = record {
       doors = d.rested;
       connections = goes_now;
+      stayed = stayed_now;
       drained = λ _. drained_by why;
       rests = λ _ writing some. all_added d.rests most_waits (rests_at first) (2 ^ 64 - 1) (rests_at doors) (rests_by why) (d.since some);
       undone = λ stopped. absurd (true≢false (sym stopped ∙ running));
@@ -318,12 +376,12 @@ module _ (left still : ℕ) (first doors : List ListenerTold) (ls ms ns : List C
         both true b e = absurd (true≢false (sym e))
         both false b e = (refl, e)
 
-        drained_by : (left ≡ 0) ⊎ (not moved && nat_eq still most_waits ≡ true) → HaveDrained ns ⊎ (0 < length first → most_rests ≤ rests_at doors)
+        drained_by : (left ≡ 0) ⊎ (not moved && nat_eq still most_waits ≡ true) → HaveDrained ls ns ⊎ (0 < length first → most_rests ≤ rests_at doors)
         drained_by (inl none) = inr (λ some.
             cap_added d.rests (rests_at first) (2 ^ 64 - 1) (rests_at doors) (counted-all d.rests left most_rests d.counted none) (d.since some))
         drained_by (inr quiet) =
             let h = both moved (nat_eq still most_waits) quiet in
-            inl (all_still ns (rows_still still ms ns (nat_eq_is still most_waits h.1) small d.rows w (sym is_moved ∙ h.0)))
+            inl (all_still ls ns (rows_still still ls ms ns (nat_eq_is still most_waits h.1) small d.rows w (sym is_moved ∙ h.0)))
 
         rests_by : (left ≡ 0) ⊎ (not moved && nat_eq still most_waits ≡ true) → most_waits ≤ d.rests
         rests_by (inl none) = let all = counted-all d.rests left most_rests d.counted none in most_before d.rests (2 ^ 64 - 1) all small
@@ -338,6 +396,7 @@ pub draining-halted : (doors : List ListenerTold) (ls : List ClientTold) (halted
 draining-halted doors ls halted is = record {
   doors = rested-same doors;
   connections = clients-same ls;
+  stayed = stayed-same ls;
   drained = λ running. absurd (true≢false (sym is ∙ running));
   rests = λ running. absurd (true≢false (sym is ∙ running));
   undone = λ _. (refl, refl);

@@ -29,6 +29,10 @@ some_asked result before now none h asking = (subst (Asked before now) none h).1
 pub owes_asked : (result : Option (List ℕ)) (body : List ℕ) (before now : Stage) → result ≡ Some body → Asked before now result → now ≡ Stages.Owes
 owes_asked result body before now some h = (subst (Asked before now) some h).1
 
+-- and asked before
+pub asks_asked : (result : Option (List ℕ)) (body : List ℕ) (before now : Stage) → result ≡ Some body → Asked before now result → before ≡ Stages.Asks
+asks_asked result body before now some h = (subst (Asked before now) some h).0
+
 -- what passed where it is asked
 abbrev Talks : ClientTold → ClientTold → Option (List ℕ) → Type 0
 Talks before now body = (first : WireTold) (bodies : List (List ℕ)) (texts : List (Option (List ℕ)))
@@ -37,15 +41,16 @@ Talks before now body = (first : WireTold) (bodies : List (List ℕ)) (texts : L
 -- a request comes
 pub answers-so : (place : ℕ) (told before now : ClientTold) (x : Option (List ℕ)) (body slice : List ℕ) (read : Read) (p : Posting) → x ≡ Some body
     → slice ≡ body → read ≡ posted slice → p ≡ posting_of (came_for told.service read) → told ≡ before → now.service ≡ told.service
-    → now.pending ≡ Some (record { place = place; read = read }) → stage_at now ≡ Stages.Owes → told_of_wire now ≡ told_of_wire told
-    → Talks told now x
+    → now.pending ≡ Some (record { place = place; read = read }) → stage_at told ≡ Stages.Asks → stage_at now ≡ Stages.Owes
+    → told_of_wire now ≡ told_of_wire told → Talks told now x
     → Answers place p before now
-answers-so place told before now x body slice read p is piece says posts same service pending stage wire talks =
+answers-so place told before now x body slice read p is piece says posts same service pending asked stage wire talks =
     let sent : read ≡ posted body = says ∙ ap posted piece in
     subst (λ l. Answers place p l now) same (record {
       body = body;
       posts = posts ∙ ap (λ r. posting_of (came_for told.service r)) sent;
       asked = record {
+        asked = asked;
         service = service;
         pending = pending ∙ ap (λ r. Some (record { place = place; read = r })) sent;
         stage = stage;

@@ -37,7 +37,7 @@ module _ (IsMade : WireTold → Type 0) (place : ℕ) (body : List ℕ) where
     stage = sym a.stage;
     memory = λ e. (let clash : Stages.Owes ≡ Stages.Spent = e in cc);
     owes = subst (λ o. OwesAt o Stages.Owes) (sym a.pending) refl;
-    row = subst (λ n. n ≤ m.longest) (sym a.row) (subst (λ n. l.in_a_row ≤ n) (sym a.longest) h.row);
+    row = λ _. subst (λ n. n ≤ m.longest) (sym a.row) (subst (λ n. l.in_a_row ≤ n) (sym a.longest) (h.row (inl (inl a.asked))));
     first = h.first;
     made = h.made;
     fresh = h.fresh;

@@ -11,7 +11,7 @@ use Rattle.conn_future.specs.declared.stage.Stage.{Stage}
 use Rattle.conn_future.specs.declared.stage.Stage.TheVariants as Stages
 use Rattle.conn_future.specs.Stages.{IsOver, IsUnanswered, IsMoving, IsAtRest}
 use Rattle.conn_future.specs.Talking.{TalksOn}
-use Rattle.run_door_front.specs.Keeping.{ClientTold, told_of_wire, stage_at, is_open, asks, asks_there, is_so, open_from, most_open, IsOrdered}
+use Rattle.run_door_front.specs.Keeping.{ClientTold, told_of_wire, stage_at, is_open, asks, asks_there, is_so, open_from, most_open, IsOrdered, IsWithin}
 use Rattle.run_door_front.specs.NextSteps.{IsPaused, IsPolled, newly, Lined, lined, IsPolledAt, ClientsGoOn, LinesUp, IsQueue, IsPausedAt, Polls, queued, PollsAll, HasNotFallen}
 use Rattle.run_door_front.specs.Moving.{has_moved, HasWaited}
 use Rattle.run_door_front.proofs.Entries.{nat_eq_same, nat_eq_is, get_set_same, get_set_other}
@@ -43,7 +43,7 @@ grown a b cap h = omega arith
 pub client_polled : (told before now : ClientTold) → told ≡ before → now.service ≡ told.service → now.pending ≡ told.pending
     → (IsAtRest (stage_at told) → (now.seen.kept ≡ told.seen.kept) × (told_of_wire now ≡ told_of_wire told))
     → (stage_at now ≡ Stages.Owes → stage_at told ≡ Stages.Owes) → TalksOn told.seen now.seen
-    → told.longest ≤ now.longest → (told.in_a_row ≤ told.longest → now.in_a_row ≤ now.longest)
+    → told.longest ≤ now.longest → (IsWithin told → IsWithin now)
     → HasNotFallen told.waits now.waits → (stage_at now ≢ Stages.Spent) → IsPaused told.waits now → IsPolled before now
 client_polled told before now same service pending rests unowed talks longest row waits memory paused = subst (λ l. IsPolled l now) same (record {
   goes = record {
@@ -90,7 +90,7 @@ pending_unspent before now stage (inr asked) = unanswered_unspent stage asked.1
 pub polled-pending : (told before now : ClientTold) → told ≡ before → now.service ≡ told.service → now.pending ≡ told.pending
     → (IsAtRest (stage_at told) → (now.seen.kept ≡ told.seen.kept) × (told_of_wire now ≡ told_of_wire told))
     → (stage_at now ≡ Stages.Owes → stage_at told ≡ Stages.Owes) → TalksOn told.seen now.seen
-    → told.longest ≤ now.longest → (told.in_a_row ≤ told.longest → now.in_a_row ≤ now.longest)
+    → told.longest ≤ now.longest → (IsWithin told → IsWithin now)
     → ((now.waits ≡ once_more told.waits) × IsMoving (stage_at now)) ⊎ ((now.waits ≡ told.waits) × IsUnanswered (stage_at now)) → IsPolled before now
 polled-pending told before now same service pending rests unowed talks longest row ends =
     client_polled told before now same service pending rests unowed talks longest row (pending_waits told.waits now.waits (stage_at now) ends)
@@ -100,7 +100,7 @@ polled-pending told before now same service pending rests unowed talks longest r
 pub polled-over : (told before now : ClientTold) → told ≡ before → now.service ≡ told.service → now.pending ≡ told.pending
     → (IsAtRest (stage_at told) → (now.seen.kept ≡ told.seen.kept) × (told_of_wire now ≡ told_of_wire told))
     → (stage_at now ≡ Stages.Owes → stage_at told ≡ Stages.Owes) → TalksOn told.seen now.seen
-    → told.longest ≤ now.longest → (told.in_a_row ≤ told.longest → now.in_a_row ≤ now.longest)
+    → told.longest ≤ now.longest → (IsWithin told → IsWithin now)
     → (now.waits ≡ told.waits) × IsOver (stage_at now) → IsPolled before now
 polled-over told before now same service pending rests unowed talks longest row ends =
     client_polled told before now same service pending rests unowed talks longest row (not_fallen-same told.waits now.waits ends.0)

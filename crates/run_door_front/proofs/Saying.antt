@@ -85,7 +85,7 @@ link_told IsMade parts t l after v a h = record {
   stage = refl;
   memory = λ e. (let clash : Stages.Writes ≡ Stages.Spent = sym a.tells.writes ∙ e in cc);
   owes = subst (λ o. OwesAt o (stage_of after.seen.kept.next)) (sym a.paid) (λ e. (let clash : Stages.Writes ≡ Stages.Owes = sym a.tells.writes ∙ e in cc));
-  row = subst (λ n. n ≤ after.longest) (sym a.row) (subst (λ n. l.in_a_row ≤ n) (sym a.longest) h.row);
+  row = λ _. subst (λ n. n ≤ after.longest) (sym a.row) (subst (λ n. l.in_a_row ≤ n) (sym a.longest) (h.row (inl (inr a.tells.owing))));
   first = h.first;
   made = h.made;
   fresh = h.fresh;
@@ -132,7 +132,7 @@ module _ (d later : Exchange) (same : later.received ≡ d.received) (ts : List 
 owing_paused : (d : Exchange) (k : ℕ) (p : Pause) (l after : ClientTold) → stage_of l.seen.kept.next ≡ Stages.Owes
     → stage_of after.seen.kept.next ≡ Stages.Writes → after.in_a_row ≡ l.in_a_row → WasPaused false d k p l → WasPaused false d k p after
 owing_paused d k for_answer l after owes writes row h = h
-owing_paused d k for_wire l after owes writes row h = (λ _. ap is_open_at writes, subst (λ n. row_of d ≤ n) (sym row) h.1)
+owing_paused d k for_wire l after owes writes row h = (ap is_open_at writes, subst (λ n. row_of d ≤ n) (sym row) h.1)
 owing_paused d k for_room l after owes writes row h = absurd (true≢false (sym h.0))
 owing_paused d k at_end l after owes writes row h = absurd (not_over (stage_of l.seen.kept.next) owes h)
 

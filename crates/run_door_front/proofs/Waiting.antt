@@ -224,7 +224,7 @@ module _ (IsMade : WireTold → Type 0) (parts : ProgramParts) (leads : List Lea
         at true o e f h = answer e
         at false true e f (inl owing) = absurd (true≢false (sym owing))
         at false true e f (inr (inl over)) = absurd (true≢false over)
-        at false true e f (inr (inr row)) = (λ _. f, row)
+        at false true e f (inr (inr row)) = (f, row)
         at false false e f h = closed_over (stage_at m) f
 
     owing_by : (m : ClientTold) → owes m || not (is_open m) ≡ true → (owes m ≡ true → HadNoAnswer d k) → WasPaused false d k (pause_of m) m

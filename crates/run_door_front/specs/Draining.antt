@@ -22,10 +22,11 @@ is_writing link = writes_at (stage_at link)
 abbrev pub any_writing : List ClientTold → Bool
 any_writing links = list_any is_writing links
 
--- A connection went on with the text that goes out, if one does; where one still does, its wire could move nothing yet
--- once more, and where no bytes moved, once more in a row.
+-- A connection went on with the text that goes out, if one does, else it stays as it was; where one still does, its wire
+-- could move nothing yet once more, and where no bytes moved, once more in a row.
 pub record WritesOn (before now : ClientTold) : Type 0 where
   pub goes : ClientGoesOn before now
+  pub idle : is_writing before ≡ false → now ≡ before
   pub wrote : is_writing now ≡ true → is_writing before ≡ true
   pub waits : is_writing now ≡ true → added before.waits 1 ≤ now.waits
   pub row : is_writing now ≡ true → has_moved before now ≡ false → added before.in_a_row 1 ≤ now.in_a_row
@@ -37,15 +38,25 @@ AreWritten [] (m ∷ ms) = ⊥
 AreWritten (l ∷ ls) [] = ⊥
 AreWritten (l ∷ ls) (m ∷ ms) = WritesOn l m × AreWritten ls ms
 
--- No text goes out on a connection any more, or the last that its wire answered is, as often in a row as a run looks,
--- that it can move nothing yet.
-abbrev pub has_drained : ClientTold → Type 0
-has_drained now = (stage_at now ≢ Stages.Writes) ⊎ (most_waits ≤ now.in_a_row)
+-- No text goes out on a connection any more. Or its wire has answered since, as often as a run looks, that it can move
+-- nothing yet, and this was the last that it answered, as often in a row.
+abbrev pub HasDrained : ClientTold → ClientTold → Type 0
+HasDrained before now =
+    (stage_at now ≢ Stages.Writes) ⊎ ((added before.waits most_waits ≤ now.waits) × (most_waits ≤ now.in_a_row))
 
 -- the same of each
-abbrev pub HaveDrained : List ClientTold → Type 0
-HaveDrained [] = Unit {0}
-HaveDrained (m ∷ ms) = has_drained m × HaveDrained ms
+abbrev pub HaveDrained : List ClientTold → List ClientTold → Type 0
+HaveDrained [] [] = Unit {0}
+HaveDrained [] (m ∷ ms) = ⊥
+HaveDrained (l ∷ ls) [] = ⊥
+HaveDrained (l ∷ ls) (m ∷ ms) = HasDrained l m × HaveDrained ls ms
+
+-- each connection on which no text went out stays as it was
+abbrev pub HaveStayed : List ClientTold → List ClientTold → Type 0
+HaveStayed [] [] = Unit {0}
+HaveStayed [] (m ∷ ms) = ⊥
+HaveStayed (l ∷ ls) [] = ⊥
+HaveStayed (l ∷ ls) (m ∷ ms) = (is_writing l ≡ false → m ≡ l) × HaveStayed ls ms
 
 -- doors were rested at, and nothing else was done at them
 abbrev pub AreRested : List ListenerTold → List ListenerTold → Type 0
@@ -61,13 +72,15 @@ AreRested (p ∷ ps) (q ∷ qs) =
 abbrev pub most_rests : ℕ
 most_rests = 2 ^ 64 - 1
 
--- Connections went on until what was due was written, or until as often in a row as a run looks nothing moved on any of
--- them on which a text goes out; or, if there is a door, until there had been the most rests. Where a text still goes out
--- there was a rest as often as a run looks, if there is a door. Where the front halted nothing was done.
+-- Connections on which a text goes out went on until it was written, or until as often in a row as a run looks nothing
+-- moved on any of them; or, if there is a door, until there had been the most rests. The others stay as they were. Where a
+-- text still goes out there was a rest as often as a run looks, if there is a door. Where the front halted nothing was
+-- done.
 pub record Drains (halted : Bool) (first later : List ListenerTold) (before now : List ClientTold) : Type 0 where
   pub doors : AreRested first later
   pub connections : ClientsGoOn before now
-  pub drained : halted ≡ false → HaveDrained now ⊎ (0 < length first → most_rests ≤ rests_at later)
+  pub stayed : HaveStayed before now
+  pub drained : halted ≡ false → HaveDrained before now ⊎ (0 < length first → most_rests ≤ rests_at later)
   pub rests : halted ≡ false → any_writing now ≡ true → 0 < length first
       → added (rests_at first) most_waits ≤ rests_at later
   pub undone : halted ≡ true → (later ≡ first) × (now ≡ before)

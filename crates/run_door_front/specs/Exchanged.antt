@@ -23,7 +23,7 @@ use Rattle.conn_future.specs.Talking.{IsTalking}
 use Rattle.outside_traits.specs.Told.{WireTold}
 use Rattle.run_door_front.specs.declared.link.PendingReply.{PendingReply}
 use Rattle.run_door_front.specs.Keeping.{ListenerTold, ClientTold, Keeping, services_of, places_of, leads_of, is_led}
-use Rattle.run_door_front.specs.Keeping.{rests_at, rests_in_a_row_at, is_quiet, is_open, no_more, AreLed}
+use Rattle.run_door_front.specs.Keeping.{rests_at, rests_in_a_row_at, is_quiet, is_open, no_more, AreLed, IsWithin}
 
 -- the two sides of a front over doors: what it keeps, and the sink of its notes
 pub record Sides : Type 0 where
@@ -49,7 +49,7 @@ pub record IsClient (IsMade : WireTold → Type 0) (link : ClientTold) (connecti
   pub stage : connection.stage ≡ stage_of link.seen.kept.next
   pub memory : connection.stage ≢ Stages.Spent
   pub owes : OwesAt link.pending connection.stage
-  pub row : link.in_a_row ≤ link.longest
+  pub row : IsWithin link
   pub first : WireTold
   pub made : IsMade first
   pub fresh : IsNewLine first
@@ -130,12 +130,12 @@ pub record HadNoAnswer (d : Exchange) (k : ℕ) : Type 0 where
 abbrev pub row_of : Exchange → ℕ
 row_of d = min d.received.waits (2 ^ 64 - 1)
 
--- When the front was asked last, connection k paused so: its last request had no answer; the last that its wire had
--- answered was, as often in a row as the front found nothing, that it can move nothing yet; or it was over. Where what is
--- due was written since, its wire may have answered so as often in a row before it moved something.
+-- When the front was asked last, connection k paused so: its last request had no answer; it was not over, and the last
+-- that its wire had answered was, as often in a row as the front found nothing, that it can move nothing yet; or it was
+-- over. Where what is due was written since, a text went out on it, and a write had come to a row as long.
 abbrev pub WasPaused : Bool → Exchange → ℕ → Pause → ClientTold → Type 0
 WasPaused drained d k for_answer link = HadNoAnswer d k
-WasPaused drained d k for_wire link = (drained ≡ false → is_open link ≡ true) × (row_of d ≤ link.in_a_row)
+WasPaused drained d k for_wire link = (is_open link ≡ true) × (row_of d ≤ link.in_a_row)
 WasPaused drained d k for_room link = (drained ≡ true) × (row_of d ≤ link.longest)
 WasPaused drained d k at_end link = IsOver (stage_of link.seen.kept.next)
 

@@ -6,7 +6,7 @@ use Rattle.outside_doors.specs.Counts.{DoorTold, untried, has_ended}
 use Rattle.outside_polling.specs.Polls.{PollTold}
 use Rattle.conn_future.specs.declared.stage.Stage.{Stage}
 use Rattle.conn_future.specs.declared.stage.Stage.TheVariants as Stages
-use Rattle.conn_future.specs.Stages.{stage_of}
+use Rattle.conn_future.specs.Stages.{stage_of, IsAnswering}
 use Rattle.conn_future.specs.Talking.{Seen}
 pub use Rattle.run_theorem.specs.Ports.{Lead, is_of_door, is_led}
 pub use Rattle.run_theorem.specs.Through.{most_open}
@@ -18,7 +18,7 @@ pub record ListenerTold : Type 0 where
   pub door : DoorTold
 
 -- A connection, the service of its door, how often its wire has answered that it can move nothing yet, how often in a row
--- up to now and in its longest row, and the request that is pending an answer, where one is.
+-- up to now and in the longest row that a write has come to, and the request that is pending an answer, where one is.
 pub record ClientTold : Type 0 where
   pub service : ℕ
   pub seen : Seen
@@ -51,6 +51,10 @@ pub record Keeping : Type 0 where
 -- how a connection stands
 abbrev pub stage_at : ClientTold → Stage
 stage_at link = stage_of link.seen.kept.next
+
+-- where a request is whole or a text goes out, the row of its wire is no longer than the longest that a write has come to
+abbrev pub IsWithin : ClientTold → Type 0
+IsWithin link = IsAnswering (stage_at link) → link.in_a_row ≤ link.longest
 
 -- a connection at this stage is not over
 abbrev pub is_open_at : Stage → Bool

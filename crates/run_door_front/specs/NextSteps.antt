@@ -18,7 +18,7 @@ use Rattle.conn_future.specs.Talking.{IsTalking, TalksOn}
 use Rattle.outside_traits.specs.Told.{WireTold}
 use Rattle.run_door_front.specs.Keeping.{ListenerTold, ClientTold, Keeping, Lead, lead_of, is_led, rests_at, wires_to}
 use Rattle.run_door_front.specs.Keeping.{leads_to, AreLed, stage_at, is_open, asks, owes, asks_there, IsOrdered}
-use Rattle.run_door_front.specs.Keeping.{closed_off, rests_in_a_row_at}
+use Rattle.run_door_front.specs.Keeping.{closed_off, rests_in_a_row_at, IsWithin}
 use Rattle.run_door_front.specs.Moving.{any_moved}
 use Rattle.run_door_front.specs.Exchanged.{IsNewLine, most_open}
 
@@ -123,7 +123,7 @@ pub record IsNewClient (IsMade : WireTold → Type 0) (link : ClientTold) : Type
   pub pending : link.pending ≡ None
   pub unowed : stage_at link ≢ Stages.Owes
   pub memory : stage_at link ≢ Stages.Spent
-  pub row : link.in_a_row ≤ link.longest
+  pub row : IsWithin link
   pub first : WireTold
   pub made : IsMade first
   pub fresh : IsNewLine first
@@ -173,7 +173,7 @@ pub record ClientGoesOn (before now : ClientTold) : Type 0 where
   pub memory : stage_at now ≡ Stages.Spent → stage_at before ≡ Stages.Spent
   pub waits : HasNotFallen before.waits now.waits
   pub longest : HasNotFallen before.longest now.longest
-  pub row : before.in_a_row ≤ before.longest → now.in_a_row ≤ now.longest
+  pub row : IsWithin before → IsWithin now
   pub talks : TalksOn before.seen now.seen
 
 -- connections go on, and new ones came, at these doors
@@ -304,6 +304,7 @@ pub record PollsAll (before now : Queued) : Type 0 where
 
 -- The request of a connection, which is whole and has this body, became the posting of this place.
 pub record IsAsked (place : ℕ) (body : List ℕ) (before now : ClientTold) : Type 0 where
+  pub asked : stage_at before ≡ Stages.Asks
   pub service : now.service ≡ before.service
   pub pending : now.pending ≡ Some (record { place = place; read = posted body })
   pub stage : stage_at now ≡ Stages.Owes

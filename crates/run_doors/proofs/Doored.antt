@@ -38,7 +38,7 @@ use Rattle.run_doors.specs.Steps.{Opens, opened_by, ports_at, GivesBack, BackTol
 use Rattle.run_doors.proofs.Lists.{length_map, all_map}
 use Rattle.run_doors.proofs.Leading.{service_at, service_in, place_in, wires_at, leads_at, any_led, leads_as, same_first, same_rest}
 use Rattle.run_doors.proofs.Serving.{served_so, as_many, given_long}
-use Rattle.run_doors.proofs.Wires.{wires_are, written_out}
+use Rattle.run_doors.proofs.Wires.{wires_are, written_out, AreOut, drained_out}
 use Rattle.run_doors.proofs.Ending.{noted_so, notes_failed_so, rests_by, through_so}
 use Rattle.run_doors.proofs.Telling.{rose_then, rose_some, stood_unfailed}
 use Rattle.run_doors.proofs.Openings.{all_marked, any_marked, all_from}
@@ -134,7 +134,7 @@ module _ {new : Exchange} (IsMade : WireTold → Type 0) (most_accepted : ℕ) (
     (first now : Sides) (begins : first.kept.doors ≡ ports) (most : first.kept.most ≡ most_accepted)
     (d : Exchange) (finished : Finished) (ran : Ran (rules_of t) t.text new d finished) (f : HasExchanged IsMade t.parts first now d)
     (picked : TookPicks (rules_of t) t.picks finished.report)
-    (drained : d.sent.halted ≡ false → HaveDrained now.kept.connections ⊎ (2 ^ 64 - 1 ≤ rests_at now.kept.doors))
+    (drained : d.sent.halted ≡ false → AreOut now.kept.connections ⊎ (2 ^ 64 - 1 ≤ rests_at now.kept.doors))
     (paused : PausedSo true now.kept d)
     (back : GivesBack (map wire_of now.kept.connections) (map door_of now.kept.doors) mid after) where
   -- the history
@@ -322,18 +322,18 @@ exchanged_so IsMade parts first now d unspent (inl out) = absurd (true≢false (
 exchanged_so IsMade parts first now d unspent (inr f) = f
 
 -- where there is no connection none has anything left to write
-none_drained : (ms : List ClientTold) → 0 ≡ length ms → HaveDrained ms
+none_drained : (ms : List ClientTold) → 0 ≡ length ms → AreOut ms
 none_drained [] none = tt
 none_drained (m ∷ ms) none = absurd (omega (arith, none))
 
 -- what is due was written, or there were the most rests: where there is no door there is no connection
-drained_so : (ps qs : List ListenerTold) (ms : List ClientTold) → AreRested ps qs
+drained_so : (ps qs : List ListenerTold) (ls ms : List ClientTold) → AreRested ps qs
     → sum_by (λ (p : ListenerTold). p.door.wires) qs ≡ length ms
-    → HaveDrained ms ⊎ (0 < length ps → most_rests ≤ rests_at qs) → HaveDrained ms ⊎ (2 ^ 64 - 1 ≤ rests_at qs)
-drained_so [] [] ms rested came done = inl (none_drained ms came)
-drained_so [] (q ∷ qs) ms rested came done = absurd rested
-drained_so (p ∷ ps) qs ms rested came (inl out) = inl out
-drained_so (p ∷ ps) qs ms rested came (inr more) = inr (more (some (length ps)))
+    → HaveDrained ls ms ⊎ (0 < length ps → most_rests ≤ rests_at qs) → AreOut ms ⊎ (2 ^ 64 - 1 ≤ rests_at qs)
+drained_so [] [] ls ms rested came done = inl (none_drained ms came)
+drained_so [] (q ∷ qs) ls ms rested came done = absurd rested
+drained_so (p ∷ ps) qs ls ms rested came (inl out) = inl (drained_out ls ms out)
+drained_so (p ∷ ps) qs ls ms rested came (inr more) = inr (more (some (length ps)))
   where
     some : (n : ℕ) → 0 < suc n
     some n = omega arith
@@ -359,14 +359,14 @@ pub doored_by : {new : Exchange} (IsMade : WireTold → Type 0) (most_accepted :
 doored_by IsMade most_accepted t before mid after ports failed o first now begins most d finished ran may unspent picked it ends source output link link_now travelled former later w l =
     let whole = exchanged_so IsMade t.parts first now d unspent may in
     let c = ends.closes in
-    let then : Sides = record { kept = kept_later IsMade t.parts first now.kept now.notes d c.ports c.connections c.drains.doors c.drains.connections; notes = now.notes } in
+    let then : Sides = record { kept = kept_later IsMade t.parts first now.kept now.notes d c.ports c.connections c.drains.doors c.drains.connections c.drains.stayed; notes = now.notes } in
     let f : HasExchanged IsMade t.parts first then d =
-    exchanged_later IsMade t.parts first now.kept now.notes d c.ports c.connections c.drains.doors c.drains.connections whole.0 in
+    exchanged_later IsMade t.parts first now.kept now.notes d c.ports c.connections c.drains.doors c.drains.connections c.drains.stayed whole.0 in
     let paused : PausedSo true then.kept d =
-    paused_later IsMade t.parts first now.kept now.notes d c.ports c.connections c.drains.doors c.drains.connections whole.0 whole.1 in
+    paused_later IsMade t.parts first now.kept now.notes d c.ports c.connections c.drains.doors c.drains.connections c.drains.stayed whole.0 whole.1 in
     let halted : now.kept.halted ≡ d.sent.halted = sym whole.0.sent.halted in
-    let drained : d.sent.halted ≡ false → HaveDrained c.connections ⊎ (2 ^ 64 - 1 ≤ rests_at c.ports)
-    = λ running. drained_so now.kept.doors c.ports c.connections c.drains.doors f.came_in (c.drains.drained (halted ∙ running)) in
+    let drained : d.sent.halted ≡ false → AreOut c.connections ⊎ (2 ^ 64 - 1 ≤ rests_at c.ports)
+    = λ running. drained_so now.kept.doors c.ports now.kept.connections c.connections c.drains.doors f.came_in (c.drains.drained (halted ∙ running)) in
     let doors =
     failed_is IsMade most_accepted t before mid after ports failed o first then begins most d finished ran f picked drained paused c.gives in
     doored-as IsMade most_accepted t (outside_of source output before first.notes link) former (outside_of source output after now.notes link_now) later

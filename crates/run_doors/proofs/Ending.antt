@@ -17,8 +17,9 @@ use Rattle.run_theorem.specs.Statuses.{Failed}
 use Rattle.run_alone.specs.Ran.{Exchanged, AreNotes, IsOver, GaveNone, finished_early, most_waits, most_moves}
 use Rattle.run_theorem.specs.RunConnections.{RunConnection}
 use Rattle.outside_traits.specs.Told.{SinkTold, WireTold}
+use Rattle.conn_future.specs.declared.stage.Stage.{Stage}
 use Rattle.conn_future.specs.Stages.{IsOver as IsOverAt}
-use Rattle.run_door_front.specs.Keeping.{ListenerTold, ClientTold, Keeping, no_more as no_more_kept, rests_at as rests_kept}
+use Rattle.run_door_front.specs.Keeping.{ListenerTold, ClientTold, Keeping, no_more as no_more_kept, rests_at as rests_kept, stage_at, is_open_at}
 use Rattle.run_door_front.specs.Keeping.{rests_in_a_row_at as rows_kept, is_quiet as is_quiet_kept}
 use Rattle.run_door_front.specs.Exchanged.{Sides, AreClients, HasExchanged, HasNoted, entire, in_part, HadNone, PausedSo, row_of, is_full as is_full_kept}
 use Rattle.run_door_front.specs.Exchanged.{HadNoAnswer as HadNoneYet, WerePaused as WerePausedThen}
@@ -103,6 +104,13 @@ all_rests moves rests is least = omega (arith, is, least)
 
 -- ---- connections
 
+-- one that is open is not over
+open_unended : (s : Stage) → is_open_at s ≡ true → IsOverAt s → ⊥
+open_unended s open (inl e) = true≢false (sym open ∙ ap is_open_at e)
+open_unended s open (inr (inl e)) = true≢false (sym open ∙ ap is_open_at e)
+open_unended s open (inr (inr (inl e))) = true≢false (sym open ∙ ap is_open_at e)
+open_unended s open (inr (inr (inr e))) = true≢false (sym open ∙ ap is_open_at e)
+
 module _ {new : Exchange} (IsMade : WireTold → Type 0) (parts : ProgramParts) (h : List Entry) (first now : Sides) (d : Exchange)
     (f : HasExchanged IsMade parts first now d) (k : Exchanged (run_of parts) h new d) where
   -- the last request of a connection had no answer, by the history
@@ -130,8 +138,10 @@ module _ {new : Exchange} (IsMade : WireTold → Type 0) (parts : ProgramParts) 
   quiet_so none row n (x ∷ xs) [] vs a b = absurd b
   quiet_so none row n (x ∷ xs) (l ∷ ls) [] a b = absurd a
   quiet_so none row n (for_answer ∷ xs) (l ∷ ls) (v ∷ vs) a b = (waited_for none n b.0, quiet_so none row (suc n) xs ls vs a.1 b.1)
-  quiet_so none row n (for_wire ∷ xs) (l ∷ ls) (v ∷ vs) a b =
-      (subst (λ m. m ≤ l.in_a_row) row b.0.1, quiet_so none row (suc n) xs ls vs a.1 b.1)
+  quiet_so none row n (for_wire ∷ xs) (l ∷ ls) (v ∷ vs) a b = (
+    (λ over. open_unended (stage_at l) b.0.0 (subst IsOverAt a.0.stage over), subst (λ m. m ≤ l.in_a_row) row b.0.1),
+    quiet_so none row (suc n) xs ls vs a.1 b.1,
+  )
   quiet_so none row n (for_room ∷ xs) (l ∷ ls) (v ∷ vs) a b =
       (subst (λ m. m ≤ l.longest) row b.0.1, quiet_so none row (suc n) xs ls vs a.1 b.1)
   quiet_so none row n (at_end ∷ xs) (l ∷ ls) (v ∷ vs) a b = (subst IsOverAt (sym a.0.stage) b.0, quiet_so none row (suc n) xs ls vs a.1 b.1)

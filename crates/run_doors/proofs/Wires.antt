@@ -1,5 +1,5 @@
 -- The wires that come back are those of the connections.
-use Rattle.std.proofs.Common.{◌≡◌, ◌≢◌, ◌↔◌, ◌||◌, ℕ, Bool, true, false, not, List, [], ◌∷◌, map}
+use Rattle.std.proofs.Common.{◌≡◌, ◌≢◌, ◌↔◌, ◌||◌, ◌⊎◌, ◌≤◌, ℕ, Bool, true, false, not, List, [], ◌∷◌, map}
 use Rattle.std.proofs.Common.{refl, sym, ap, ap₂, subst, ◌∙◌, inl, inr, ⊎_elim, true≢false, arith}
 use Rattle.std.specs.List.{AllZip}
 use Rattle.run_theorem.specs.RunConnections.{RunConnection}
@@ -14,7 +14,8 @@ use Rattle.outside_traits.specs.Told.{WireTold}
 use Rattle.http_connection.specs.Seen.{Failures, failures_of}
 use Rattle.http_connection.specs.Stages.{stage_of as plain_stage_of}
 use Rattle.http_connection.specs.Talking.{WireTells}
-use Rattle.run_door_front.specs.Keeping.{ClientTold}
+use Rattle.run_theorem.specs.Lines.{most_waits}
+use Rattle.run_door_front.specs.Keeping.{ClientTold, stage_at}
 use Rattle.run_door_front.specs.Exchanged.{IsClient, AreClients}
 use Rattle.run_door_front.specs.Draining.{HaveDrained}
 use Rattle.run_doors.specs.Steps.{traffic_of, wire_of}
@@ -89,6 +90,18 @@ cut_at (Stands.Over Ends.WriteFailed) first line read none is_open some k =
     (λ e. k.2 ∙ ap₂ (λ (failed closed : Bool). failed || not closed) none is_open, λ h. refl)
 cut_at Stands.Spent first line read none is_open some k = absurd (some refl)
 
+-- no text goes out on these connections, or their wires could move nothing as often in a row as a run looks
+abbrev pub AreOut : List ClientTold → Type 0
+AreOut [] = Unit {0}
+AreOut (m ∷ ms) = ((stage_at m ≢ Stages.Writes) ⊎ (most_waits ≤ m.in_a_row)) × AreOut ms
+
+pub drained_out : (ls ms : List ClientTold) → HaveDrained ls ms → AreOut ms
+drained_out [] [] h = tt
+drained_out [] (m ∷ ms) h = absurd h
+drained_out (l ∷ ls) [] h = absurd h
+drained_out (l ∷ ls) (m ∷ ms) h =
+    (⊎_elim (λ out. inl out) (λ waited. inr waited.1) h.0, drained_out ls ms h.1)
+
 module _ (IsMade : WireTold → Type 0) where
   -- a wire of a connection
   wire_is : (l : ClientTold) (v : RunConnection) → IsClient IsMade l v → IsWireOf IsMade v (traffic_of l) (wire_of l).wire
@@ -119,7 +132,7 @@ module _ (IsMade : WireTold → Type 0) where
   wires_are (l ∷ ls) (v ∷ vs) k = (wire_is l v k.0, wires_are ls vs k.1)
 
   -- what was due was written on each
-  pub written_out : (ms : List ClientTold) (vs : List RunConnection) → AreClients IsMade ms vs → HaveDrained ms
+  pub written_out : (ms : List ClientTold) (vs : List RunConnection) → AreClients IsMade ms vs → AreOut ms
       → AllZip IsWrittenOut vs (map wire_of ms)
   written_out [] [] k h = tt
   written_out [] (v ∷ vs) k h = absurd k

@@ -17,7 +17,7 @@ use Rattle.conn_future.specs.Stages.{IsOver}
 abbrev pub most_open : ℕ
 most_open = 1024
 
--- why nothing came of a connection: it waited for an answer, its wire could move nothing, its wire had no room for the
+-- why nothing came of a connection: it waited for an answer, its wire could move nothing, its wire could not take the
 -- text that went out on it, or it was over
 pub data Pause : Type 0 where
   for_answer : Pause
@@ -48,12 +48,13 @@ pub record HadNoAnswer (w : Setting) (h : List Entry) (asked : List Asked) (k : 
   pub last : suc whose.request ≡ count_by (is_of k) asked
   pub unfinished : list_any (nat_eq place) (finished_early w h (length asked)) ≡ false
 
--- What a connection tells by whose pause nothing came of it, where it waited for an answer if this is so. The last that
--- its wire answered is, as often in a row as a run looks, that it can move nothing yet. Or a text went out on it: its wire
--- answered so as often in a row, and moved something later, when what was due was written. Or it is over.
+-- What a connection tells by whose pause nothing came of it, where it waited for an answer if this is so. It is not over,
+-- and the last that its wire answered is, as often in a row as a run looks, that it can move nothing yet. Or a text went
+-- out on it: at some time a write came to as long a row of such answers, and what was due was tried again since. Or it is
+-- over.
 abbrev pub Paused : Type 0 → Pause → RunConnection → PollTold → Type 0
 Paused Waited for_answer connection wire = Waited
-Paused Waited for_wire connection wire = most_waits ≤ wire.in_a_row
+Paused Waited for_wire connection wire = (IsOver connection.stage → ⊥) × (most_waits ≤ wire.in_a_row)
 Paused Waited for_room connection wire = most_waits ≤ wire.longest
 Paused Waited at_end connection wire = IsOver connection.stage
 

@@ -14,7 +14,7 @@ use Rattle.conn_future.specs.Talking.{seen, plain}
 use Rattle.conn_future.specs.Steps.{unmade}
 use Rattle.conn_future.proofs.Standing.{waits_fed, waits_spent, ended_now, read_failed_now}
 use Rattle.conn_future.proofs.Writing.{moved}
-use Rattle.conn_future.proofs.Turning.{over_stops, nothing_called, read_less, over_less, over_row, same_passed, row_ended, row_goes, rows_kept, holds_on}
+use Rattle.conn_future.proofs.Turning.{over_stops, nothing_called, read_less, over_less, over_row, same_passed, row_ended, row_ended_on, row_reads, row_spent}
 use Rattle.conn_future.proofs.turn.read_on.Goals as goal
 
 pub returns-in_err-reserve-clause-talks : goal.returns-in_err-reserve-clause-talks
@@ -262,31 +262,28 @@ pub returns-in-Err-clause-made : goal.returns-in-Err-clause-made
 returns-in-Err-clause-made g c = ap unmade c.finish-in-Err.ensures.finishes.next
 
 pub returns-in_err-reserve-clause-longest : goal.returns-in_err-reserve-clause-longest
-returns-in_err-reserve-clause-longest g c = rows_kept _ _ (record { row = refl; longest = refl })
+returns-in_err-reserve-clause-longest g c = row_spent _ _ _ _ refl (ap stage_of c.stand.ensures.next)
 
 pub returns-in-Ok-NotYet-clause-longest : goal.returns-in-Ok-NotYet-clause-longest
 returns-in-Ok-NotYet-clause-longest g c =
-    row_goes (g.W.PollWire.told c.args.wire.now) (g.W.PollWire.told c.try_read.new.self) (rw c.in-Ok-NotYet.field-0-is at c.in-Ok-NotYet.ensures.reads).1
+    row_reads _ _ (g.W.PollWire.told c.args.wire.now) (g.W.PollWire.told c.try_read.new.self) c.in-Ok-NotYet.ensures.longest (ap stage_of c.stand-in-Ok-NotYet.ensures.next)
 
 pub returns-in-Ok-Done-eq0-clause-longest : goal.returns-in-Ok-Done-eq0-clause-longest
 returns-in-Ok-Done-eq0-clause-longest g c =
-    holds_on _ _ _
-    (row_ended (g.W.PollWire.told c.args.wire.now) (g.W.PollWire.told c.try_read.new.self)
-    (rw c.in-Ok-Done-eq0.field-0-is at c.in-Ok-Done-eq0.ensures.row) (rw c.in-Ok-Done-eq0.field-0-is at c.in-Ok-Done-eq0.ensures.longest))
-    (rows_kept _ _ c.finish.ensures.rows)
+    row_ended_on _ _ (g.W.PollWire.told c.args.wire.now) (g.W.PollWire.told c.try_read.new.self) (g.W.PollWire.told c.finish.new.wire)
+    (rw c.in-Ok-Done-eq0.field-0-is at c.in-Ok-Done-eq0.ensures.row) c.in-Ok-Done-eq0.ensures.longest c.finish.ensures.rows
 
 pub returns-in_err-go_on-in-Ok-Done-clause-longest : goal.returns-in_err-go_on-in-Ok-Done-clause-longest
 returns-in_err-go_on-in-Ok-Done-clause-longest g c =
-    row_ended (g.W.PollWire.told c.args.wire.now) (g.W.PollWire.told c.try_read.new.self)
-    (rw c.in-Ok-Done.field-0-is at c.in-Ok-Done.ensures.row) (rw c.in-Ok-Done.field-0-is at c.in-Ok-Done.ensures.longest)
+    row_ended _ _ (g.W.PollWire.told c.args.wire.now) (g.W.PollWire.told c.try_read.new.self)
+    (rw c.in-Ok-Done.field-0-is at c.in-Ok-Done.ensures.row) c.in-Ok-Done.ensures.longest
 
 pub returns-in_ok-go_on-in-Ok-Done-clause-longest : goal.returns-in_ok-go_on-in-Ok-Done-clause-longest
 returns-in_ok-go_on-in-Ok-Done-clause-longest g c =
-    row_ended (g.W.PollWire.told c.args.wire.now) (g.W.PollWire.told c.try_read.new.self)
-    (rw c.in-Ok-Done.field-0-is at c.in-Ok-Done.ensures.row) (rw c.in-Ok-Done.field-0-is at c.in-Ok-Done.ensures.longest)
+    row_ended _ _ (g.W.PollWire.told c.args.wire.now) (g.W.PollWire.told c.try_read.new.self)
+    (rw c.in-Ok-Done.field-0-is at c.in-Ok-Done.ensures.row) c.in-Ok-Done.ensures.longest
 
 pub returns-in-Err-clause-longest : goal.returns-in-Err-clause-longest
 returns-in-Err-clause-longest g c =
-    holds_on _ _ _
-    (row_ended (g.W.PollWire.told c.args.wire.now) (g.W.PollWire.told c.try_read.new.self) c.in-Err.ensures.row c.in-Err.ensures.longest)
-    (rows_kept _ _ c.finish-in-Err.ensures.rows)
+    row_ended_on _ _ (g.W.PollWire.told c.args.wire.now) (g.W.PollWire.told c.try_read.new.self) (g.W.PollWire.told c.finish-in-Err.new.wire)
+    c.in-Err.ensures.row c.in-Err.ensures.longest c.finish-in-Err.ensures.rows

@@ -99,19 +99,19 @@ pub returns-in_err-respond-in-Says-clause-owes : goal.returns-in_err-respond-in-
 returns-in_err-respond-in-Says-clause-owes g c = λ e. absurd (unowed _ (ap unmade c.in_err-respond-in-Says.ensures.made.1) e)
 
 pub returns-in-Holds-clause-longest : goal.returns-in-Holds-clause-longest
-returns-in-Holds-clause-longest g c = rows_kept _ _ (record { row = refl; longest = refl })
+returns-in-Holds-clause-longest g c = rows_kept _ _ _ _ (record { row = refl; longest = refl }) (λ a. a)
 
 pub returns-in-Owes-clause-longest : goal.returns-in-Owes-clause-longest
-returns-in-Owes-clause-longest g c = rows_kept _ _ (record { row = refl; longest = refl })
+returns-in-Owes-clause-longest g c = rows_kept _ _ _ _ (record { row = refl; longest = refl }) (λ a. a)
 
 pub returns-in-Over-clause-longest : goal.returns-in-Over-clause-longest
-returns-in-Over-clause-longest g c = rows_kept _ _ (record { row = refl; longest = refl })
+returns-in-Over-clause-longest g c = rows_kept _ _ _ _ (record { row = refl; longest = refl }) (λ a. a)
 
 pub returns-in-Spent-clause-longest : goal.returns-in-Spent-clause-longest
-returns-in-Spent-clause-longest g c = rows_kept _ _ (record { row = refl; longest = refl })
+returns-in-Spent-clause-longest g c = rows_kept _ _ _ _ (record { row = refl; longest = refl }) (λ a. a)
 
 pub returns-in_err-respond-in-Says-clause-longest : goal.returns-in_err-respond-in-Says-clause-longest
-returns-in_err-respond-in-Says-clause-longest g c = rows_kept _ _ (record { row = refl; longest = refl })
+returns-in_err-respond-in-Says-clause-longest g c = rows_kept _ _ _ _ (record { row = refl; longest = refl }) (λ a. inr (ap stage_of c.in-Says.is))
 
 pub returns-in_ok-respond-in-Says-clause-longest : goal.returns-in_ok-respond-in-Says-clause-longest
-returns-in_ok-respond-in-Says-clause-longest g c = rows_kept _ _ (record { row = refl; longest = refl })
+returns-in_ok-respond-in-Says-clause-longest g c = rows_kept _ _ _ _ (record { row = refl; longest = refl }) (λ a. inr (ap stage_of c.in-Says.is))

@@ -12,7 +12,7 @@ use Rattle.conn_future.specs.Steps.{unmade}
 use Rattle.conn_future.proofs.Writing.{moved, some_left}
 use Rattle.conn_future.proofs.Sending.{Wrote, sending, not_none, wrote_carried, wrote_out, cut_now}
 use Rattle.conn_future.proofs.Standing.{spends_sending}
-use Rattle.conn_future.proofs.Turning.{stops_since, over_stops, one_write, taken_count, nothing_called, write_less, any_less, over_less, any_row, over_row, same_passed, row_ended, row_goes, rows_kept, holds_on}
+use Rattle.conn_future.proofs.Turning.{stops_since, over_stops, one_write, taken_count, nothing_called, write_less, any_less, over_less, any_row, over_row, same_passed, row_ended_on, row_writes, rows_kept}
 use Rattle.conn_future.proofs.turn.write_on.Goals as goal
 
 pub returns-in_err-reserve-clause-talks : goal.returns-in_err-reserve-clause-talks
@@ -227,24 +227,22 @@ pub returns-in-Err-clause-made : goal.returns-in-Err-clause-made
 returns-in-Err-clause-made g c = ap unmade c.finish-in-Err.ensures.finishes.next
 
 pub returns-then-is_out-clause-longest : goal.returns-then-is_out-clause-longest
-returns-then-is_out-clause-longest g c = rows_kept _ _ c.finish.ensures.rows
+returns-then-is_out-clause-longest g c = rows_kept _ _ _ _ c.finish.ensures.rows (λ a. inr (ap stage_of c.requires))
 
 pub returns-in_err-reserve-clause-longest : goal.returns-in_err-reserve-clause-longest
-returns-in_err-reserve-clause-longest g c = rows_kept _ _ (record { row = refl; longest = refl })
+returns-in_err-reserve-clause-longest g c = rows_kept _ _ _ _ (record { row = refl; longest = refl }) (λ a. inr (ap stage_of c.requires))
 
 pub returns-in-Ok-NotYet-clause-longest : goal.returns-in-Ok-NotYet-clause-longest
 returns-in-Ok-NotYet-clause-longest g c =
-    row_goes (g.W.PollWire.told c.args.wire.now) (g.W.PollWire.told c.try_write.new.self) (rw c.in-Ok-NotYet.field-0-is at c.in-Ok-NotYet.ensures.writes).1
+    row_writes _ _ (g.W.PollWire.told c.args.wire.now) (g.W.PollWire.told c.try_write.new.self) (rw c.in-Ok-NotYet.field-0-is at c.in-Ok-NotYet.ensures.writes).1
+    (rw c.in-Ok-NotYet.field-0-is at c.in-Ok-NotYet.ensures.longest)
 
 pub returns-in-Ok-Done-clause-longest : goal.returns-in-Ok-Done-clause-longest
 returns-in-Ok-Done-clause-longest g c =
-    holds_on _ _ _
-    (row_ended (g.W.PollWire.told c.args.wire.now) (g.W.PollWire.told c.try_write.new.self)
-    (rw c.in-Ok-Done.field-0-is at c.in-Ok-Done.ensures.row) (rw c.in-Ok-Done.field-0-is at c.in-Ok-Done.ensures.longest))
-    (rows_kept _ _ c.go_behind.ensures.rows)
+    row_ended_on _ _ (g.W.PollWire.told c.args.wire.now) (g.W.PollWire.told c.try_write.new.self) (g.W.PollWire.told c.go_behind.new.wire)
+    (rw c.in-Ok-Done.field-0-is at c.in-Ok-Done.ensures.row) (rw c.in-Ok-Done.field-0-is at c.in-Ok-Done.ensures.longest) c.go_behind.ensures.rows
 
 pub returns-in-Err-clause-longest : goal.returns-in-Err-clause-longest
 returns-in-Err-clause-longest g c =
-    holds_on _ _ _
-    (row_ended (g.W.PollWire.told c.args.wire.now) (g.W.PollWire.told c.try_write.new.self) c.in-Err.ensures.row c.in-Err.ensures.longest)
-    (rows_kept _ _ c.finish-in-Err.ensures.rows)
+    row_ended_on _ _ (g.W.PollWire.told c.args.wire.now) (g.W.PollWire.told c.try_write.new.self) (g.W.PollWire.told c.finish-in-Err.new.wire)
+    c.in-Err.ensures.row c.in-Err.ensures.longest c.finish-in-Err.ensures.rows

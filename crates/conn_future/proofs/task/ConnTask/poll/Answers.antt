@@ -16,7 +16,7 @@ loop-init g c =
       rests = λ _. (refl, refl);
       owes = λ e. e;
       row = inl (refl, refl);
-      longest = rows_kept _ _ (record { row = refl; longest = refl });
+      longest = rows_kept _ _ _ _ (record { row = refl; longest = refl }) (λ a. a);
     }
 
 pub loop-preserved : goal.loop-preserved
@@ -31,7 +31,7 @@ loop-preserved g c =
       rests = rests_on _ c.loop.self.kept c.take_turn.new.kept _ c.loop.self.wire c.take_turn.new.wire c.loop.invariant.rests c.in-Ok-GoesOn.ensures.rests;
       owes = λ e. c.loop.invariant.owes (c.in-Ok-GoesOn.ensures.owes e);
       row = row_on _ _ _ c.args.self.now.kept c.loop.self.kept c.take_turn.new.kept c.loop.invariant.row (rw c.in-Ok-GoesOn.field-0-is at c.in-Ok-GoesOn.ensures.row);
-      longest = holds_on _ _ _ c.loop.invariant.longest c.in-Ok-GoesOn.ensures.longest;
+      longest = holds_on _ _ _ _ _ _ c.loop.invariant.longest c.in-Ok-GoesOn.ensures.longest;
     }
 
 pub loop-smaller : goal.loop-smaller
@@ -132,25 +132,25 @@ returns-in-Err-clause-row g c = λ moving read written.
     absurd (spent_unmoving (subst (λ n. IsMoving (stage_of n)) c.in-Err.ensures.spent.1 moving))
 
 pub returns-in-Ok-Waits-clause-longest : goal.returns-in-Ok-Waits-clause-longest
-returns-in-Ok-Waits-clause-longest g c = (holds_on _ _ _ c.loop.invariant.longest c.in-Ok-Waits.ensures.longest).later
+returns-in-Ok-Waits-clause-longest g c = (holds_on _ _ _ _ _ _ c.loop.invariant.longest c.in-Ok-Waits.ensures.longest).later
 
 pub returns-in-Ok-Waits-clause-within : goal.returns-in-Ok-Waits-clause-within
-returns-in-Ok-Waits-clause-within g c = (holds_on _ _ _ c.loop.invariant.longest c.in-Ok-Waits.ensures.longest).holds
+returns-in-Ok-Waits-clause-within g c = (holds_on _ _ _ _ _ _ c.loop.invariant.longest c.in-Ok-Waits.ensures.longest).holds
 
 pub returns-in-Ok-Owes-clause-longest : goal.returns-in-Ok-Owes-clause-longest
-returns-in-Ok-Owes-clause-longest g c = (holds_on _ _ _ c.loop.invariant.longest c.in-Ok-Owes.ensures.longest).later
+returns-in-Ok-Owes-clause-longest g c = (holds_on _ _ _ _ _ _ c.loop.invariant.longest c.in-Ok-Owes.ensures.longest).later
 
 pub returns-in-Ok-Owes-clause-within : goal.returns-in-Ok-Owes-clause-within
-returns-in-Ok-Owes-clause-within g c = (holds_on _ _ _ c.loop.invariant.longest c.in-Ok-Owes.ensures.longest).holds
+returns-in-Ok-Owes-clause-within g c = (holds_on _ _ _ _ _ _ c.loop.invariant.longest c.in-Ok-Owes.ensures.longest).holds
 
 pub returns-in-Ok-Over-clause-longest : goal.returns-in-Ok-Over-clause-longest
-returns-in-Ok-Over-clause-longest g c = (holds_on _ _ _ c.loop.invariant.longest c.in-Ok-Over.ensures.longest).later
+returns-in-Ok-Over-clause-longest g c = (holds_on _ _ _ _ _ _ c.loop.invariant.longest c.in-Ok-Over.ensures.longest).later
 
 pub returns-in-Ok-Over-clause-within : goal.returns-in-Ok-Over-clause-within
-returns-in-Ok-Over-clause-within g c = (holds_on _ _ _ c.loop.invariant.longest c.in-Ok-Over.ensures.longest).holds
+returns-in-Ok-Over-clause-within g c = (holds_on _ _ _ _ _ _ c.loop.invariant.longest c.in-Ok-Over.ensures.longest).holds
 
 pub returns-in-Err-clause-longest : goal.returns-in-Err-clause-longest
-returns-in-Err-clause-longest g c = (holds_on _ _ _ c.loop.invariant.longest c.in-Err.ensures.longest).later
+returns-in-Err-clause-longest g c = (holds_on _ _ _ _ _ _ c.loop.invariant.longest c.in-Err.ensures.longest).later
 
 pub returns-in-Err-clause-within : goal.returns-in-Err-clause-within
-returns-in-Err-clause-within g c = (holds_on _ _ _ c.loop.invariant.longest c.in-Err.ensures.longest).holds
+returns-in-Err-clause-within g c = (holds_on _ _ _ _ _ _ c.loop.invariant.longest c.in-Err.ensures.longest).holds

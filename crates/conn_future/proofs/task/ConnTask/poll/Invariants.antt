@@ -14,7 +14,7 @@ invariant-loop g l = record {
   owes : stage_of l.self.kept.next ≡ Stages.Owes → stage_of l.fn.self.kept.next ≡ Stages.Owes;
   row : (((g.W.PollWire.told l.self.wire).in_a_row ≡ (g.W.PollWire.told l.fn.self.wire).in_a_row) × (passed_on l.self.kept ≡ passed_on l.fn.self.kept))
       ⊎ (passed_on l.fn.self.kept < passed_on l.self.kept);
-  longest : HoldsLongest (g.W.PollWire.told l.fn.self.wire) (g.W.PollWire.told l.self.wire);
+  longest : HoldsLongest (stage_of l.fn.self.kept.next) (stage_of l.self.kept.next) (g.W.PollWire.told l.fn.self.wire) (g.W.PollWire.told l.self.wire);
 }
 
 -- each turn that goes on moves bytes or makes a response
