@@ -86,8 +86,7 @@ impl<W: PollWire> ConnTask<W> {
             → (W.told self.new.wire).in_a_row ≡ once_more (W.told self.old.wire).in_a_row }
         ensures longest { (W.told self.old.wire).longest ≤ (W.told self.new.wire).longest }
         // Where a request is whole or a text goes out, its row is no longer than the longest that a write has come to.
-        ensures within {
-            (IsAnswering (stage_of self.old.kept.next)
+        ensures within { (IsAnswering (stage_of self.old.kept.next)
             → (W.told self.old.wire).in_a_row ≤ (W.told self.old.wire).longest)
             → IsAnswering (stage_of self.new.kept.next)
             → (W.told self.new.wire).in_a_row ≤ (W.told self.new.wire).longest }

@@ -64,4 +64,5 @@ pub record ComesAt (place : ℕ) (told : PollTold) : Type 0 where
   pub fresh : IsFresh told.wire
   pub unwaited : told.waits ≡ 0
   pub no_row : told.in_a_row ≡ 0
+  pub no_longest : told.longest ≡ 0
   pub door : told.wire.door ≡ Some place

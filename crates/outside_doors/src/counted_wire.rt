@@ -40,6 +40,7 @@ impl<W: PollWire> CountedWire<W> {
         requires fresh { IsFresh (W.told wire).wire }
         requires unwaited { (W.told wire).waits ≡ 0 }
         requires no_row { (W.told wire).in_a_row ≡ 0 }
+        requires no_longest { (W.told wire).longest ≡ 0 }
         ensures wire { result ≡ placed door wire }
         ensures comes { ComesAt door (told_at (Some result.door) (W.told result.wire)) }
     {

@@ -22,7 +22,8 @@ impl<W: PollWire + Drop> Model for NewWire<W> {
 
     ghost invariant = { λ n. IsFresh (W.told n.wire).wire
         × ((W.told n.wire).waits ≡ 0)
-        × ((W.told n.wire).in_a_row ≡ 0) };
+        × ((W.told n.wire).in_a_row ≡ 0)
+        × ((W.told n.wire).longest ≡ 0) };
 }
 
 impl<W: PollWire + Drop> NewWire<W> {
@@ -30,6 +31,7 @@ impl<W: PollWire + Drop> NewWire<W> {
         requires fresh { IsFresh (W.told wire).wire }
         requires unwaited { (W.told wire).waits ≡ 0 }
         requires no_row { (W.told wire).in_a_row ≡ 0 }
+        requires no_longest { (W.told wire).longest ≡ 0 }
         ensures { result ≡ wire }
     {
         NewWire { wire }

@@ -118,6 +118,9 @@ count_then test e (p ∷ ps) (l ∷ ls) =
     ∙ ap₂ (λ (b : Bool) (n : ℕ). one_if b + n) (same_test test e p l) (count_then test e ps ls) ∙ sym (count_cons test p ps)
 
 -- with any last value of their type
+pub since : (n a b cap : ℕ) → min n cap ≤ a → min a cap ≤ b → min n cap ≤ b
+since n a b cap h k = omega arith
+
 within_longest : (n a b c cap : ℕ) → min n cap ≤ a → a ≤ b → min b cap ≤ c → min n cap ≤ c
 within_longest n a b c cap h k l = omega arith
 
@@ -127,7 +130,11 @@ paused_on d k for_answer l m g s r h = h
 paused_on d k for_wire l m g s r h = at (is_writing l) refl
   where
     at : (b : Bool) → is_writing l ≡ b → WasPaused true d k (cond b for_room for_wire) m
-    at true e = (refl, within_longest d.received.waits l.in_a_row l.longest m.longest (2 ^ 64 - 1) h.1 (r (inr (writes_is (stage_at l) e))) g.longest)
+    at true e = (
+      refl,
+      since d.received.waits l.waits m.waits (2 ^ 64 - 1) h.1.0 g.waits,
+      within_longest d.received.waits l.in_a_row l.longest m.longest (2 ^ 64 - 1) h.1.1 (r (inr (writes_is (stage_at l) e))) g.longest,
+    )
     at false e = subst (WasPaused true d k for_wire) (sym (s e)) h
 paused_on d k for_room l m g s r h = absurd (true≢false (sym h.0))
 paused_on d k at_end l m g s r h = subst (λ (x : ClientTold). IsOver (stage_at x)) (sym (g.rests (inr h))) h
@@ -141,10 +148,6 @@ all_paused_on d k (p ∷ ps) [] ms g s r h = absurd h
 all_paused_on d k (p ∷ ps) (l ∷ ls) [] g s r h = absurd g
 all_paused_on d k (p ∷ ps) (l ∷ ls) (m ∷ ms) g s r h =
     (paused_on d k p l m g.0 s.0 r.0 h.0, all_paused_on d (suc k) ps ls ms g.1 s.1 r.1 h.1)
-
--- with any last value of their type
-pub since : (n a b cap : ℕ) → min n cap ≤ a → min a cap ≤ b → min n cap ≤ b
-since n a b cap h k = omega arith
 
 -- ---- all of it
 

@@ -205,7 +205,7 @@ tried-in_a_row (p ∷ ps) (q ∷ qs) n t = (one t.0, tried-in_a_row ps qs n.1 t.
   where
     one : IsTried p q → IsTriedInARow p q
     one (inl done) = inl done
-    one (inr more) = inr (more.1 n.0)
+    one (inr more) = inr (more.0, more.1 n.0)
 
 -- one door more
 pub all-push : (ps qs : List ListenerTold) (p q : ListenerTold) → AllGoOn ps qs → GoesOn p q → AllGoOn (ps ++ p ∷ []) (qs ++ q ∷ [])

@@ -52,7 +52,7 @@ writes-polled l m writes p waited = record {
   idle = λ still. absurd (true≢false (sym writes ∙ still));
   wrote = λ w. writes;
   waits = λ w. one_more (added l.waits 1 ≤ m.waits) (writes_is (stage_at m) w) p.paused;
-  row = λ w still. one_more (added l.in_a_row 1 ≤ m.in_a_row) (writes_is (stage_at m) w) (waited still);
+  row = λ w still. (one_more ((added l.waits 1 ≤ m.waits) × (added l.in_a_row 1 ≤ m.in_a_row)) (writes_is (stage_at m) w) (waited still)).1;
 }
   where
     one_more : (More : Type 0) → stage_at m ≡ Stages.Writes → IsUnanswered (stage_at m) ⊎ (IsOver (stage_at m) ⊎ More) → More
@@ -65,6 +65,10 @@ writes-polled l m writes p waited = record {
     one_more More e (inr (inr more)) = more
 
 -- ---- all connections
+
+neither : (a b : Bool) → a || b ≡ false → (a ≡ false) × (b ≡ false)
+neither true b e = absurd (true≢false e)
+neither false b e = (refl, e)
 
 written_go : (ms ns : List ClientTold) → AreWritten ms ns → ClientsGoOn ms ns
 written_go [] [] w = tt
@@ -86,6 +90,14 @@ stayed_further (l ∷ ls) (m ∷ ms) [] s w = w
 stayed_further (l ∷ ls) (m ∷ ms) (n ∷ ns) s w =
     (λ still. w.0.idle (ap is_writing (s.0 still) ∙ still) ∙ s.0 still, stayed_further ls ms ns s.1 w.1)
 
+none_stays : (ls ms : List ClientTold) → HaveStayed ls ms → any_writing ls ≡ false → any_writing ms ≡ false
+none_stays [] [] s e = refl
+none_stays [] (m ∷ ms) s e = absurd s
+none_stays (l ∷ ls) [] s e = refl
+none_stays (l ∷ ls) (m ∷ ms) s e =
+    let both = neither (is_writing l) (any_writing ls) e in
+    ap₂ (λ a b. a || b) (ap is_writing (s.0 both.0) ∙ both.0) (none_stays ls ms s.1 both.1)
+
 -- where a text still goes out the wire could move nothing so often since, and so often in a row
 abbrev pub HasRows : ℕ → ClientTold → ClientTold → Type 0
 HasRows still l m = is_writing m ≡ true → (added l.waits still ≤ m.waits) × (still ≤ m.in_a_row)
@@ -106,10 +118,6 @@ rows_none [] [] g = tt
 rows_none [] (m ∷ ms) g = g
 rows_none (l ∷ ls) [] g = g
 rows_none (l ∷ ls) (m ∷ ms) g = (λ w. (none_since l.waits m.waits (2 ^ 64 - 1) g.0.waits, omega arith), rows_none ls ms g.1)
-
-neither : (a b : Bool) → a || b ≡ false → (a ≡ false) × (b ≡ false)
-neither true b e = absurd (true≢false e)
-neither false b e = (refl, e)
 
 -- with any last value of their type
 row_more : (still row now most cap : ℕ) → still ≤ row → min (row + 1) cap ≤ now → suc still ≤ most → most ≤ cap → suc still ≤ now
@@ -259,6 +267,7 @@ pub record Draining (left still : ℕ) (first doors : List ListenerTold) (ls ms 
   pub since : 0 < length first → added (rests_at first) rests ≤ rests_at doors
   pub goes : ClientsGoOn ls ms
   pub stayed : HaveStayed ls ms
+  pub idle : any_writing ls ≡ false → doors ≡ first
   pub rows : AllRows still ls ms
 
 pub draining-none : (left : ℕ) (doors : List ListenerTold) (ls : List ClientTold) → left ≡ most_rests → Draining left 0 doors doors ls ls
@@ -271,6 +280,7 @@ draining-none left doors ls all = record {
   since = λ some. none_added (rests_at doors) (2 ^ 64 - 1);
   goes = clients-same ls;
   stayed = stayed-same ls;
+  idle = λ _. refl;
   rows = rows_none ls ls (clients-same ls);
 }
   where
@@ -297,14 +307,17 @@ module _ (left still : ℕ) (first doors : List ListenerTold) (ls ms ns : List C
   stayed_now = stayed_further ls ms ns d.stayed w
 
   -- a rest more
-  pub draining-more : (quiet : Bool) → quiet ≡ (not moved && nat_eq still most_waits) → quiet ≡ false → (left ≡ 0 → ⊥) → (later : List ListenerTold)
-      → later ≡ after_rest doors → (after : ℕ) → after ≡ cond moved 0 (suc still) → Draining (left - 1) after first later ls ns
-  draining-more quiet is_quiet loud some_left later is after is_after =
+  pub draining-more : (quiet : Bool) → quiet ≡ (not moved && nat_eq still most_waits) → quiet ≡ false → (left ≡ 0 → ⊥) → (writes : Bool)
+      → writes ≡ any_writing ns → writes ≡ true → (later : List ListenerTold) → later ≡ after_rest doors → (after : ℕ) → after ≡ cond moved 0 (suc still) → Draining (left - 1) after first later ls ns
+  draining-more quiet is_quiet loud some_left writes is_writing some_writes later is after is_after =
       subst (λ n. Draining (left - 1) n first later ls ns) (sym is_after) (by_moved moved is_moved (sym is_quiet ∙ loud))
     where
       since_now : 0 < length first → added (rests_at first) (suc d.rests) ≤ rests_at later
       since_now some = one_added d.rests (rests_at first) (rests_at doors) (2 ^ 64 - 1) (rests_at later) (d.since some)
           (subst (λ ps. added (rests_at doors) 1 ≤ rests_at ps) (sym is) (rests-rested doors (rested_some first doors d.rested some)))
+
+      idle_now : any_writing ls ≡ false → later ≡ first
+      idle_now none = absurd (true≢false (sym some_writes ∙ is_writing ∙ none_stays ls ns stayed_now none))
 
       rested_now : AreRested first later
       rested_now = rested_further first doors later d.rested (subst (AreRested doors) (sym is) (rested_after doors))
@@ -333,6 +346,7 @@ module _ (left still : ℕ) (first doors : List ListenerTold) (ls ms ns : List C
         since = since_now;
         goes = goes_now;
         stayed = stayed_now;
+        idle = idle_now;
         rows = rows_none ls ns goes_now;
       }
       by_moved false so loud =
@@ -346,6 +360,7 @@ module _ (left still : ℕ) (first doors : List ListenerTold) (ls ms ns : List C
             since = since_now;
             goes = goes_now;
             stayed = stayed_now;
+            idle = idle_now;
             rows = rows_more still most_waits ls ms ns few small d.rows w (sym so);
           }
 
@@ -358,6 +373,7 @@ module _ (left still : ℕ) (first doors : List ListenerTold) (ls ms ns : List C
       stayed = stayed_now;
       drained = λ _. inl (none_writes ls ns goes_now (sym is ∙ none));
       rests = λ _ writing. absurd (true≢false (sym writing ∙ sym is ∙ none));
+      idle = λ _. d.idle;
       undone = λ stopped. absurd (true≢false (sym stopped ∙ running));
     }
 
@@ -369,6 +385,7 @@ module _ (left still : ℕ) (first doors : List ListenerTold) (ls ms ns : List C
       stayed = stayed_now;
       drained = λ _. drained_by why;
       rests = λ _ writing some. all_added d.rests most_waits (rests_at first) (2 ^ 64 - 1) (rests_at doors) (rests_by why) (d.since some);
+      idle = λ _. d.idle;
       undone = λ stopped. absurd (true≢false (sym stopped ∙ running));
     }
       where
@@ -399,6 +416,7 @@ draining-halted doors ls halted is = record {
   stayed = stayed-same ls;
   drained = λ running. absurd (true≢false (sym is ∙ running));
   rests = λ running. absurd (true≢false (sym is ∙ running));
+  idle = λ running. absurd (true≢false (sym is ∙ running));
   undone = λ _. (refl, refl);
 }
 

@@ -64,7 +64,8 @@ paused_in_a_row (l ∷ ls) (m ∷ ms) w e none =
     asks_so : stage_at m ≡ Stages.Asks → asks m ≡ true
     asks_so is = ap asks_at is
 
-    one : IsUnanswered (stage_at m) ⊎ (IsOver (stage_at m) ⊎ (added l.in_a_row 1 ≤ m.in_a_row)) → asks m ≡ false → HasPausedInARow l m
+    one : IsUnanswered (stage_at m) ⊎ (IsOver (stage_at m) ⊎ ((added l.waits 1 ≤ m.waits) × (added l.in_a_row 1 ≤ m.in_a_row))) → asks m ≡ false
+        → HasPausedInARow l m
     one (inl (inl asking)) h = absurd (true≢false (sym (asks_so asking) ∙ h))
     one (inl (inr owing)) h = inl owing
     one (inr more) h = inr more

@@ -150,7 +150,10 @@ waited-pending told before now same row ends = subst (λ l. HasWaited l now) sam
     by : ((now.waits ≡ once_more told.waits) × IsMoving (stage_at now)) ⊎ ((now.waits ≡ told.waits) × IsUnanswered (stage_at now)) → HasWaited told now
     by (inl waited) = λ still.
         let counts = as_many told now still in
-        inr (inr (at_least now.in_a_row (added told.in_a_row 1) (row waited.1 counts.0 counts.1)))
+        inr (inr (
+          at_least now.waits (added told.waits 1) waited.0,
+          at_least now.in_a_row (added told.in_a_row 1) (row waited.1 counts.0 counts.1),
+        ))
     by (inr asked) = λ still. inl asked.1
 
 -- or over

@@ -118,7 +118,7 @@ module _ (d later : Exchange) (same : later.received ≡ d.received) (ts : List 
     (seen : d.received.seen ≤ length d.sent.told) where
   was_paused-more : (k : ℕ) (p : Pause) (l : ClientTold) → WasPaused false d k p l → WasPaused false later k p l
   was_paused-more k for_answer l h = no_answer-more d later k same ts more seen h
-  was_paused-more k for_wire l h = (h.0, subst (λ n. n ≤ l.in_a_row) (sym (row_same d later same)) h.1)
+  was_paused-more k for_wire l h = (h.0, subst (λ n. (n ≤ l.waits) × (n ≤ l.in_a_row)) (sym (row_same d later same)) h.1)
   was_paused-more k for_room l h = absurd (true≢false (sym h.0))
   was_paused-more k at_end l h = h
 
@@ -130,22 +130,24 @@ module _ (d later : Exchange) (same : later.received ≡ d.received) (ts : List 
 
 -- what a connection that owed an answer is told changes nothing of why nothing came of it
 owing_paused : (d : Exchange) (k : ℕ) (p : Pause) (l after : ClientTold) → stage_of l.seen.kept.next ≡ Stages.Owes
-    → stage_of after.seen.kept.next ≡ Stages.Writes → after.in_a_row ≡ l.in_a_row → WasPaused false d k p l → WasPaused false d k p after
-owing_paused d k for_answer l after owes writes row h = h
-owing_paused d k for_wire l after owes writes row h = (ap is_open_at writes, subst (λ n. row_of d ≤ n) (sym row) h.1)
-owing_paused d k for_room l after owes writes row h = absurd (true≢false (sym h.0))
-owing_paused d k at_end l after owes writes row h = absurd (not_over (stage_of l.seen.kept.next) owes h)
+    → stage_of after.seen.kept.next ≡ Stages.Writes → after.waits ≡ l.waits → after.in_a_row ≡ l.in_a_row → WasPaused false d k p l
+    → WasPaused false d k p after
+owing_paused d k for_answer l after owes writes waits row h = h
+owing_paused d k for_wire l after owes writes waits row h =
+    (ap is_open_at writes, subst (λ n. row_of d ≤ n) (sym waits) h.1.0, subst (λ n. row_of d ≤ n) (sym row) h.1.1)
+owing_paused d k for_room l after owes writes waits row h = absurd (true≢false (sym h.0))
+owing_paused d k at_end l after owes writes waits row h = absurd (not_over (stage_of l.seen.kept.next) owes h)
 
 -- nor of the others
 paused_set : (d : Exchange) (k : ℕ) (ps : List Pause) (ls : List ClientTold) (n : ℕ) (l after : ClientTold) → slice_get ls n ≡ Some l
-    → stage_of l.seen.kept.next ≡ Stages.Owes → stage_of after.seen.kept.next ≡ Stages.Writes → after.in_a_row ≡ l.in_a_row
+    → stage_of l.seen.kept.next ≡ Stages.Owes → stage_of after.seen.kept.next ≡ Stages.Writes → after.waits ≡ l.waits → after.in_a_row ≡ l.in_a_row
     → WerePaused false d k ps ls → WerePaused false d k ps (slice_set ls n after)
-paused_set d k [] [] n l after there owes writes row h = h
-paused_set d k [] (x ∷ ls) n l after there owes writes row h = absurd h
-paused_set d k (p ∷ ps) [] n l after there owes writes row h = absurd h
-paused_set d k (p ∷ ps) (x ∷ ls) zero l after there owes writes row h =
-    (owing_paused d k p l after owes writes row (subst (WasPaused false d k p) (same_of x l there) h.0), h.1)
-paused_set d k (p ∷ ps) (x ∷ ls) (suc n) l after there owes writes row h = (h.0, paused_set d (suc k) ps ls n l after there owes writes row h.1)
+paused_set d k [] [] n l after there owes writes waits row h = h
+paused_set d k [] (x ∷ ls) n l after there owes writes waits row h = absurd h
+paused_set d k (p ∷ ps) [] n l after there owes writes waits row h = absurd h
+paused_set d k (p ∷ ps) (x ∷ ls) zero l after there owes writes waits row h =
+    (owing_paused d k p l after owes writes waits row (subst (WasPaused false d k p) (same_of x l there) h.0), h.1)
+paused_set d k (p ∷ ps) (x ∷ ls) (suc n) l after there owes writes waits row h = (h.0, paused_set d (suc k) ps ls n l after there owes writes waits row h.1)
 
 -- whether a connection can come asks for the doors and for how many connections there are
 no_more-same : (before now : Keeping) → now.doors ≡ before.doors → now.most ≡ before.most → length now.connections ≡ length before.connections
@@ -314,7 +316,7 @@ module _ (IsMade : WireTold → Type 0) (parts : ProgramParts) (first : Sides) (
     pauses = n.pauses;
     each = subst (WerePaused false now_exchanged 0 n.pauses) (sym a.connections)
         (paused_more d now_exchanged refl (told_of place outcomes ∷ []) refl h.seen 0 n.pauses (slice_set old.connections a.number a.after)
-        (paused_set d 0 n.pauses old.connections a.number a.link a.after a.there a.tells.tells.owing a.tells.tells.writes a.tells.row n.each));
+        (paused_set d 0 n.pauses old.connections a.number a.link a.after a.there a.tells.tells.owing a.tells.tells.writes a.tells.waits a.tells.row n.each));
     over = λ ended. (no_more-same old new a.doors a.most count ∙ (n.over ended).0, (n.over ended).1);
     rested = subst (λ ps. row_of d ≤ rests_in_a_row_at ps) (sym a.doors) n.rested;
     quiet = elim n.quiet [

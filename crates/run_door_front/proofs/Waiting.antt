@@ -50,10 +50,10 @@ owes_open s e = ap is_open_at (owes_is s e)
 
 -- ---- rows
 
--- A connection waits for an answer, it is over, or the last that its wire answered is, so often in a row, that it can
+-- A connection waits for an answer, it is over, or its wire has answered so often, and so often in a row now, that it can
 -- move nothing yet.
 abbrev pub HasRow : ℕ → ClientTold → Type 0
-HasRow row m = (owes m ≡ true) ⊎ ((is_open m ≡ false) ⊎ (row ≤ m.in_a_row))
+HasRow row m = (owes m ≡ true) ⊎ ((is_open m ≡ false) ⊎ ((row ≤ m.waits) × (row ≤ m.in_a_row)))
 
 abbrev pub AllRows : ℕ → List ClientTold → Type 0
 AllRows row [] = Unit {0}
@@ -61,7 +61,7 @@ AllRows row (m ∷ ms) = HasRow row m × AllRows row ms
 
 pub rows-none : (row : ℕ) → row ≡ 0 → (ms : List ClientTold) → AllRows row ms
 rows-none row none [] = tt
-rows-none row none (m ∷ ms) = (inr (inr (least row m.in_a_row none)), rows-none row none ms)
+rows-none row none (m ∷ ms) = (inr (inr (least row m.waits none, least row m.in_a_row none)), rows-none row none ms)
   where
     least : (a b : ℕ) → a ≡ 0 → a ≤ b
     least a b e = omega arith
@@ -87,14 +87,17 @@ rows-more IsMade leads n (l ∷ ls) (m ∷ ms) g p r = (one p.0 r.0, rows-more I
     one (inr (inr more)) (inl owing) = inl (ap (λ (x : ClientTold). owes x) (g.0.rests (inl (inr (owes_is (stage_at l) owing)))) ∙ owing)
     one (inr (inr more)) (inr (inl over)) =
         inr (inl (ap (λ (x : ClientTold). is_open x) (g.0.rests (inr (closed_over (stage_at l) over))) ∙ over))
-    one (inr (inr more)) (inr (inr row)) = inr (inr (once_more n l.in_a_row (2 ^ 64 - 1) m.in_a_row row more))
+    one (inr (inr more)) (inr (inr row)) =
+        inr (inr (once_more n l.waits (2 ^ 64 - 1) m.waits row.0 more.0, once_more n l.in_a_row (2 ^ 64 - 1) m.in_a_row row.1 more.1))
 
 -- ---- doors at which nobody comes
 
 pub quiet-none : (row : ℕ) → row ≡ 0 → (ps : List ListenerTold) → list_all (is_quiet row) ps ≡ true
 quiet-none row none [] = refl
 quiet-none row none (p ∷ ps) =
-    and_from (is_quiet row p) (list_all (is_quiet row) ps) (or_true (has_ended p.door) (le-leb row p.door.waits_in_a_row (least row p.door.waits_in_a_row none)))
+    and_from (is_quiet row p) (list_all (is_quiet row) ps) (or_true (has_ended p.door)
+    (and_from (nat_le row p.door.waits) (nat_le row p.door.waits_in_a_row) (le-leb row p.door.waits (least row p.door.waits none))
+    (le-leb row p.door.waits_in_a_row (least row p.door.waits_in_a_row none))))
     (quiet-none row none ps)
   where
     least : (a b : ℕ) → a ≡ 0 → a ≤ b
@@ -116,19 +119,24 @@ quiet-more n (p ∷ ps) (q ∷ qs) g t e =
     (quiet-more n ps qs g.1 t.1 both.1)
   where
     ended : has_ended q.door ≡ true → is_quiet (min (suc n) (2 ^ 64 - 1)) q ≡ true
-    ended done = ap (λ b. b || nat_le (min (suc n) (2 ^ 64 - 1)) q.door.waits_in_a_row) done
+    ended done = ap (λ b. b || (nat_le (min (suc n) (2 ^ 64 - 1)) q.door.waits && nat_le (min (suc n) (2 ^ 64 - 1)) q.door.waits_in_a_row)) done
 
     or_true : (b : Bool) {c : Bool} → c ≡ true → b || c ≡ true
     or_true true e = refl
     or_true false e = e
 
-    one : IsTriedInARow p q → (b : Bool) → has_ended p.door ≡ b → b || nat_le (min n (2 ^ 64 - 1)) p.door.waits_in_a_row ≡ true
-        → is_quiet (min (suc n) (2 ^ 64 - 1)) q ≡ true
+    one : IsTriedInARow p q → (b : Bool) → has_ended p.door ≡ b
+        → b || (nat_le (min n (2 ^ 64 - 1)) p.door.waits && nat_le (min n (2 ^ 64 - 1)) p.door.waits_in_a_row) ≡ true → is_quiet (min (suc n) (2 ^ 64 - 1)) q ≡ true
     one (inl done) b is h = ended done
     one (inr more) true is h = ended (g.0.ended is)
     one (inr more) false is h =
-        or_true (has_ended q.door) (le-leb (min (suc n) (2 ^ 64 - 1)) q.door.waits_in_a_row
-        (once_more n p.door.waits_in_a_row (2 ^ 64 - 1) q.door.waits_in_a_row (leb-true (min n (2 ^ 64 - 1)) p.door.waits_in_a_row h) more))
+        let both = and_parts (nat_le (min n (2 ^ 64 - 1)) p.door.waits) (nat_le (min n (2 ^ 64 - 1)) p.door.waits_in_a_row) h in
+        or_true (has_ended q.door)
+        (and_from (nat_le (min (suc n) (2 ^ 64 - 1)) q.door.waits) (nat_le (min (suc n) (2 ^ 64 - 1)) q.door.waits_in_a_row)
+        (le-leb (min (suc n) (2 ^ 64 - 1)) q.door.waits
+        (once_more n p.door.waits (2 ^ 64 - 1) q.door.waits (leb-true (min n (2 ^ 64 - 1)) p.door.waits both.0) more.0))
+        (le-leb (min (suc n) (2 ^ 64 - 1)) q.door.waits_in_a_row
+        (once_more n p.door.waits_in_a_row (2 ^ 64 - 1) q.door.waits_in_a_row (leb-true (min n (2 ^ 64 - 1)) p.door.waits_in_a_row both.1) more.1)))
 
 -- ---- why nothing comes of each
 
@@ -219,7 +227,7 @@ module _ (IsMade : WireTold → Type 0) (parts : ProgramParts) (leads : List Lea
     paused_by : (m : ClientTold) → HasRow (row_of d) m → (owes m ≡ true → HadNoAnswer d k) → WasPaused false d k (pause_of m) m
     paused_by m h answer = at (owes m) (is_open m) refl refl h
       where
-        at : (w o : Bool) → owes m ≡ w → is_open m ≡ o → (w ≡ true) ⊎ ((o ≡ false) ⊎ (row_of d ≤ m.in_a_row))
+        at : (w o : Bool) → owes m ≡ w → is_open m ≡ o → (w ≡ true) ⊎ ((o ≡ false) ⊎ ((row_of d ≤ m.waits) × (row_of d ≤ m.in_a_row)))
             → WasPaused false d k (cond w for_answer (cond o for_wire at_end)) m
         at true o e f h = answer e
         at false true e f (inl owing) = absurd (true≢false (sym owing))

@@ -68,14 +68,14 @@ AreRested (p ∷ ps) (q ∷ qs) =
     × HasNotFallen p.door.rests q.door.rests × HasNotFallen p.door.rests_in_a_row q.door.rests_in_a_row
     × AreRested ps qs
 
--- the most rests of one drain
+-- the most rests that are counted
 abbrev pub most_rests : ℕ
 most_rests = 2 ^ 64 - 1
 
 -- Connections on which a text goes out went on until it was written, or until as often in a row as a run looks nothing
--- moved on any of them; or, if there is a door, until there had been the most rests. The others stay as they were. Where a
--- text still goes out there was a rest as often as a run looks, if there is a door. Where the front halted nothing was
--- done.
+-- moved on any of them; or, if there is a door, until as many rests had been as are counted, over all of a run. The others
+-- stay as they were. Where a text still goes out there was a rest as often as a run looks, if there is a door; and none
+-- where no text went out at first. Where the front halted nothing was done.
 pub record Drains (halted : Bool) (first later : List ListenerTold) (before now : List ClientTold) : Type 0 where
   pub doors : AreRested first later
   pub connections : ClientsGoOn before now
@@ -83,4 +83,5 @@ pub record Drains (halted : Bool) (first later : List ListenerTold) (before now 
   pub drained : halted ≡ false → HaveDrained before now ⊎ (0 < length first → most_rests ≤ rests_at later)
   pub rests : halted ≡ false → any_writing now ≡ true → 0 < length first
       → added (rests_at first) most_waits ≤ rests_at later
+  pub idle : halted ≡ false → any_writing before ≡ false → later ≡ first
   pub undone : halted ≡ true → (later ≡ first) × (now ≡ before)

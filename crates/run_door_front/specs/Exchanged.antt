@@ -130,13 +130,15 @@ pub record HadNoAnswer (d : Exchange) (k : ℕ) : Type 0 where
 abbrev pub row_of : Exchange → ℕ
 row_of d = min d.received.waits (2 ^ 64 - 1)
 
--- When the front was asked last, connection k paused so: its last request had no answer; it was not over, and the last
--- that its wire had answered was, as often in a row as the front found nothing, that it can move nothing yet; or it was
--- over. Where what is due was written since, a text went out on it, and a write had come to a row as long.
+-- When the front was asked last, connection k paused so: its last request had no answer; it was not over, and its wire had
+-- answered as often as the front found nothing in a row that it can move nothing yet, and this was the last that it had
+-- answered, as often in a row; or it was over. Where what is due was written since, a text went out on it, and a write had
+-- come to a row as long.
 abbrev pub WasPaused : Bool → Exchange → ℕ → Pause → ClientTold → Type 0
 WasPaused drained d k for_answer link = HadNoAnswer d k
-WasPaused drained d k for_wire link = (is_open link ≡ true) × (row_of d ≤ link.in_a_row)
-WasPaused drained d k for_room link = (drained ≡ true) × (row_of d ≤ link.longest)
+WasPaused drained d k for_wire link =
+    (is_open link ≡ true) × (row_of d ≤ link.waits) × (row_of d ≤ link.in_a_row)
+WasPaused drained d k for_room link = (drained ≡ true) × (row_of d ≤ link.waits) × (row_of d ≤ link.longest)
 WasPaused drained d k at_end link = IsOver (stage_of link.seen.kept.next)
 
 -- the same of each connection, the first of which has the number k

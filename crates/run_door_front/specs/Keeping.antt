@@ -1,5 +1,5 @@
 -- What a front over doors keeps.
-use Rattle.std.specs.Prelude.{◌≡◌, ℕ, suc, ◌≤◌, Bool, true, false, ◌||◌, if◌then◌else◌, List, [], ◌∷◌, length, map}
+use Rattle.std.specs.Prelude.{◌≡◌, ℕ, suc, ◌≤◌, Bool, true, false, ◌&&◌, ◌||◌, if◌then◌else◌, List, [], ◌∷◌, length, map}
 use Rattle.std.specs.Prelude.{nat_eq, nat_le, count_by, Option, None, Some, slice_get}
 use Rattle.std.specs.List.{list_all, sum_by}
 use Rattle.outside_doors.specs.Counts.{DoorTold, untried, has_ended}
@@ -164,9 +164,11 @@ rests_at doors = sum_by (λ (p : ListenerTold). p.door.rests) doors
 abbrev pub rests_in_a_row_at : List ListenerTold → ℕ
 rests_in_a_row_at doors = sum_by (λ (p : ListenerTold). p.door.rests_in_a_row) doors
 
--- a door has ended, or the last that it answered is, so often in a row, that nobody has come yet
+-- A door has ended, or it has answered so often that nobody has come yet, and this is the last that it answered, as often
+-- in a row.
 abbrev pub is_quiet : ℕ → ListenerTold → Bool
-is_quiet often port = has_ended port.door || nat_le often port.door.waits_in_a_row
+is_quiet often port =
+    has_ended port.door || (nat_le often port.door.waits && nat_le often port.door.waits_in_a_row)
 
 -- no connection can come any more: as many were accepted as may be, or each door has ended
 abbrev pub closed_off : ℕ → List ListenerTold → List ClientTold → Bool

@@ -26,10 +26,11 @@ any_moved (l ∷ ls) [] = true
 any_moved (l ∷ ls) (m ∷ ms) = has_moved l m || any_moved ls ms
 
 -- Where no bytes moved on a connection, a request of it has no answer yet, it is over, or its wire could move nothing
--- yet once more in a row.
+-- yet once more, and once more in a row.
 abbrev pub HasWaited : ClientTold → ClientTold → Type 0
 HasWaited before now = has_moved before now ≡ false
-    → IsUnanswered (stage_at now) ⊎ (IsOver (stage_at now) ⊎ (added before.in_a_row 1 ≤ now.in_a_row))
+    → IsUnanswered (stage_at now) ⊎ (IsOver (stage_at now)
+    ⊎ ((added before.waits 1 ≤ now.waits) × (added before.in_a_row 1 ≤ now.in_a_row)))
 
 -- the same of each
 abbrev pub HaveWaited : List ClientTold → List ClientTold → Type 0

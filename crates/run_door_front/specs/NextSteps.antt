@@ -66,10 +66,10 @@ AreTried [] (q ∷ qs) = ⊥
 AreTried (p ∷ ps) [] = ⊥
 AreTried (p ∷ ps) (q ∷ qs) = IsTried p q × AreTried ps qs
 
--- a door has ended, or it answered once more in a row that nobody has come yet
+-- a door has ended, or it answered once more, and once more in a row, that nobody has come yet
 abbrev pub IsTriedInARow : ListenerTold → ListenerTold → Type 0
-IsTriedInARow before now =
-    (has_ended now.door ≡ true) ⊎ (added before.door.waits_in_a_row 1 ≤ now.door.waits_in_a_row)
+IsTriedInARow before now = (has_ended now.door ≡ true) ⊎ ((added before.door.waits 1 ≤ now.door.waits)
+    × (added before.door.waits_in_a_row 1 ≤ now.door.waits_in_a_row))
 
 -- the same of each
 abbrev pub AreTriedInARow : List ListenerTold → List ListenerTold → Type 0
@@ -437,10 +437,10 @@ pub record HasRested (before now : List ListenerTold) : Type 0 where
   pub rested : now ≡ after_rest mid
   pub goes : AllGoOn before mid
 
--- A connection waits for an answer, it is over, or its wire could move nothing yet once more in a row.
+-- A connection waits for an answer, it is over, or its wire could move nothing yet once more, and once more in a row.
 abbrev pub HasPausedInARow : ClientTold → ClientTold → Type 0
-HasPausedInARow before now =
-    (stage_at now ≡ Stages.Owes) ⊎ (IsOver (stage_at now) ⊎ (added before.in_a_row 1 ≤ now.in_a_row))
+HasPausedInARow before now = (stage_at now ≡ Stages.Owes) ⊎ (IsOver (stage_at now)
+    ⊎ ((added before.waits 1 ≤ now.waits) × (added before.in_a_row 1 ≤ now.in_a_row)))
 
 -- the same of each
 abbrev pub HavePausedInARow : List ClientTold → List ClientTold → Type 0

@@ -1,5 +1,5 @@
 -- The wires that come back are those of the connections.
-use Rattle.std.proofs.Common.{◌≡◌, ◌≢◌, ◌↔◌, ◌||◌, ◌⊎◌, ◌≤◌, ℕ, Bool, true, false, not, List, [], ◌∷◌, map}
+use Rattle.std.proofs.Common.{◌≡◌, ◌≢◌, ◌↔◌, ◌||◌, ◌⊎◌, ◌≤◌, ◌+◌, ◌-◌, ◌^◌, min, ℕ, Bool, true, false, not, List, [], ◌∷◌, map}
 use Rattle.std.proofs.Common.{refl, sym, ap, ap₂, subst, ◌∙◌, inl, inr, ⊎_elim, true≢false, arith}
 use Rattle.std.specs.List.{AllZip}
 use Rattle.run_theorem.specs.RunConnections.{RunConnection}
@@ -93,14 +93,21 @@ cut_at Stands.Spent first line read none is_open some k = absurd (some refl)
 -- no text goes out on these connections, or their wires could move nothing as often in a row as a run looks
 abbrev pub AreOut : List ClientTold → Type 0
 AreOut [] = Unit {0}
-AreOut (m ∷ ms) = ((stage_at m ≢ Stages.Writes) ⊎ (most_waits ≤ m.in_a_row)) × AreOut ms
+AreOut (m ∷ ms) = ((stage_at m ≢ Stages.Writes) ⊎ ((most_waits ≤ m.waits) × (most_waits ≤ m.in_a_row))) × AreOut ms
+
+-- with any last value of their type
+as_often : (w m cap : ℕ) → min (w + most_waits) cap ≤ m → most_waits ≤ cap → most_waits ≤ m
+as_often w m cap h k = omega arith
+
+small : most_waits ≤ 2 ^ 64 - 1
+small = omega arith
 
 pub drained_out : (ls ms : List ClientTold) → HaveDrained ls ms → AreOut ms
 drained_out [] [] h = tt
 drained_out [] (m ∷ ms) h = absurd h
 drained_out (l ∷ ls) [] h = absurd h
 drained_out (l ∷ ls) (m ∷ ms) h =
-    (⊎_elim (λ out. inl out) (λ waited. inr waited.1) h.0, drained_out ls ms h.1)
+    (⊎_elim (λ out. inl out) (λ waited. inr (as_often l.waits m.waits (2 ^ 64 - 1) waited.0 small, waited.1)) h.0, drained_out ls ms h.1)
 
 module _ (IsMade : WireTold → Type 0) where
   -- a wire of a connection

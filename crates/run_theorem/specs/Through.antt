@@ -1,5 +1,5 @@
 -- Why a run over connections asked for no posting any more.
-use Rattle.std.specs.Prelude.{◌≡◌, ◌⊎◌, ℕ, suc, ◌-◌, ◌^◌, ◌≤◌, Bool, true, false, ◌||◌, List, [], ◌∷◌, length}
+use Rattle.std.specs.Prelude.{◌≡◌, ◌⊎◌, ℕ, suc, ◌-◌, ◌^◌, ◌≤◌, Bool, true, false, ◌&&◌, ◌||◌, List, [], ◌∷◌, length}
 use Rattle.std.specs.Prelude.{nat_eq, nat_le, Some, count_by, sum_by, slice_get}
 use Rattle.std.specs.List.{list_all, list_any}
 use Rattle.outside_doors.specs.Counts.{DoorTold, has_ended}
@@ -49,13 +49,14 @@ pub record HadNoAnswer (w : Setting) (h : List Entry) (asked : List Asked) (k : 
   pub unfinished : list_any (nat_eq place) (finished_early w h (length asked)) ≡ false
 
 -- What a connection tells by whose pause nothing came of it, where it waited for an answer if this is so. It is not over,
--- and the last that its wire answered is, as often in a row as a run looks, that it can move nothing yet. Or a text went
--- out on it: at some time a write came to as long a row of such answers, and what was due was tried again since. Or it is
--- over.
+-- and its wire has answered as often as a run looks that it can move nothing yet, and this is the last that it answered, as
+-- often in a row. Or a text went out on it: its wire has answered so as often, and at some time a write came to as long a
+-- row of such answers. Or it is over.
 abbrev pub Paused : Type 0 → Pause → RunConnection → PollTold → Type 0
 Paused Waited for_answer connection wire = Waited
-Paused Waited for_wire connection wire = (IsOver connection.stage → ⊥) × (most_waits ≤ wire.in_a_row)
-Paused Waited for_room connection wire = most_waits ≤ wire.longest
+Paused Waited for_wire connection wire =
+    (IsOver connection.stage → ⊥) × (most_waits ≤ wire.waits) × (most_waits ≤ wire.in_a_row)
+Paused Waited for_room connection wire = (most_waits ≤ wire.waits) × (most_waits ≤ wire.longest)
 Paused Waited at_end connection wire = IsOver connection.stage
 
 -- each connection, the first of which has the number k, paused so
@@ -72,9 +73,10 @@ no_more most connections doors = nat_le most (length connections) || list_all ha
 abbrev pub is_full : ℕ → List RunConnection → List Pause → Bool
 is_full most connections pauses = nat_le most (length connections) || nat_le most_open (count_by is_unended pauses)
 
--- a door has ended, or the last that it answered is, as often in a row as a run looks, that nobody has come yet
+-- A door has ended, or it has answered as often as a run looks that nobody has come yet, and this is the last that it
+-- answered, as often in a row.
 abbrev pub is_quiet : DoorTold → Bool
-is_quiet door = has_ended door || nat_le most_waits door.waits_in_a_row
+is_quiet door = has_ended door || (nat_le most_waits door.waits && nat_le most_waits door.waits_in_a_row)
 
 -- how often was rested, at all doors
 abbrev pub rests_at : List DoorTold → ℕ

@@ -126,7 +126,8 @@ AreWires IsMade [] [] [] = Unit {0}
 AreWires IsMade (v ∷ vs) (t ∷ ts) (w ∷ ws) = IsWireOf IsMade v t w.wire × AreWires IsMade vs ts ws
 AreWires IsMade vs ts ws = ⊥
 
--- No text goes out on a connection any more: all that was due on it was written, or a write failed. Or the last that its
--- wire answered is, as often in a row as a run looks, that it can move nothing yet.
+-- No text goes out on a connection any more: all that was due on it was written, or a write failed. Or its wire has
+-- answered as often as a run looks that it can move nothing yet, and this is the last that it answered, as often in a row.
 abbrev pub IsWrittenOut : RunConnection → PollTold → Type 0
-IsWrittenOut connection wire = (connection.stage ≢ Stages.Writes) ⊎ (most_waits ≤ wire.in_a_row)
+IsWrittenOut connection wire =
+    (connection.stage ≢ Stages.Writes) ⊎ ((most_waits ≤ wire.waits) × (most_waits ≤ wire.in_a_row))

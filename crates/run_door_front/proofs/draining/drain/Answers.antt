@@ -31,7 +31,7 @@ pub loop-writes-preserved : goal.loop-writes-preserved
 loop-writes-preserved g c =
     draining-more c.loop-writes.left c.loop-writes.still c.args.doors.now c.loop-writes.doors c.args.connections.now c.loop-writes.connections c.write_all.new.connections
     c.loop-writes.invariant c.in_ok-writes.ensures.2 _ c.in_ok-writes.ensures.1 _ c.is_quiet.ensures c.if-is_quiet.false
-    (λ e. absurd (omega (arith, e, c.if-left-eq0.false))) c.rest.new.doors c.rest.ensures _ c.still_after-still.ensures
+    (λ e. absurd (omega (arith, e, c.if-left-eq0.false))) _ c.in_ok-writes.ensures.0 c.if-not-writes.false c.rest.new.doors c.rest.ensures _ c.still_after-still.ensures
 
 pub loop-writes-smaller : goal.loop-writes-smaller
 loop-writes-smaller g c = omega (arith, c.if-left-eq0.false)
