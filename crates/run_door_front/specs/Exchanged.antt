@@ -132,8 +132,8 @@ row_of d = min d.received.waits (2 ^ 64 - 1)
 
 -- When the front was asked last, connection k paused so: its last request had no answer; it was not over, and its wire had
 -- answered as often as the front found nothing in a row that it can move nothing yet, and this was the last that it had
--- answered, as often in a row; or it was over. Where what is due was written since, a text went out on it, and a write had
--- come to a row as long.
+-- answered, as often in a row; or it was over. Where what is due was written since, a write on it may have come at some time
+-- to a row as long.
 abbrev pub WasPaused : Bool → Exchange → ℕ → Pause → ClientTold → Type 0
 WasPaused drained d k for_answer link = HadNoAnswer d k
 WasPaused drained d k for_wire link =
@@ -154,8 +154,8 @@ is_full kept pauses = nat_le kept.most (length kept.connections) || nat_le most_
 
 -- The front had no posting: each connection waited for an answer, had a wire that could move nothing, or was over. Where
 -- it ended no connection can come any more, and each waited for an answer or was over. As often in a row as it found
--- nothing there was a rest, at each door since somebody came there last, and nobody came at any door in as many tries in
--- a row, unless nobody was let in.
+-- nothing there was a rest, in all, counted at each door since somebody came there last, and nobody came at any door that
+-- has not ended in as many tries in a row, unless nobody was let in.
 pub record HadNone (drained : Bool) (kept : Keeping) (d : Exchange) : Type 0 where
   pub pauses : List Pause
   pub each : WerePaused drained d 0 pauses kept.connections

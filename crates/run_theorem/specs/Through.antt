@@ -50,8 +50,8 @@ pub record HadNoAnswer (w : Setting) (h : List Entry) (asked : List Asked) (k : 
 
 -- What a connection tells by whose pause nothing came of it, where it waited for an answer if this is so. It is not over,
 -- and its wire has answered as often as a run looks that it can move nothing yet, and this is the last that it answered, as
--- often in a row. Or a text went out on it: its wire has answered so as often, and at some time a write came to as long a
--- row of such answers. Or it is over.
+-- often in a row. Or its wire has answered so as often, and at some time a write came to as long a row of such answers. Or
+-- it is over.
 abbrev pub Paused : Type 0 → Pause → RunConnection → PollTold → Type 0
 Paused Waited for_answer connection wire = Waited
 Paused Waited for_wire connection wire =
@@ -93,9 +93,10 @@ pub record HasEnded (Waited : ℕ → Type 0) (most : ℕ) (connections : List R
   pub closed : no_more most connections used.doors ≡ true
   pub none_for_wire : list_any is_for_wire pauses ≡ false
 
--- Nothing came any more. There were as many rests as a run looks in a row, at each door since somebody came there last.
--- Nobody came at any door in as many tries in a row, unless nobody was let in. And each connection waited for an answer,
--- had a wire that could move nothing as often in a row, or was over.
+-- Nothing came any more. There were as many rests as a run looks in a row, in all, counted at each door since somebody
+-- came there last. Nobody came at any door that has not ended in as many tries in a row, unless nobody was let in. And each
+-- connection waited for an answer, had a wire that could move nothing as often in a row, could at some time take nothing of
+-- a text as often in a row, or was over.
 pub record FellQuiet (Waited : ℕ → Type 0) (most : ℕ) (connections : List RunConnection) (used : Used) : Type 0 where
   pub pauses : List Pause
   pub each : WerePaused Waited 0 pauses connections used.wires
