@@ -1,9 +1,8 @@
 -- Where the definitions of a text stand whole before the last one.
-use Rattle.std.proofs.Common.{◌≡◌, inl, inr, ℕ, ◌+◌, ◌<◌, ◌≤◌, true, List, [], ◌∷◌, ◌++◌, length, map, take, drop, get_or, refl, sym, ap, subst, ◌∙◌, arith}
+use Rattle.std.proofs.Common.{◌≡◌, inl, inr, ℕ, ◌+◌, ◌<◌, true, List, ◌∷◌, ◌++◌, length, map, take, drop, get_or, refl, sym, ap, subst, ◌∙◌, arith}
 use Rattle.std.specs.Prelude.{codes}
 use Rattle.std.proofs.lemmas.List.{take-append-drop, take-append-le, take_all, drop_more}
 use Rattle.jolie_tokens.specs.declared.token.Token.{Token}
-use Rattle.jolie_tokens.specs.declared.token.TokenKind.TheVariants as kind
 use Rattle.jolie_tokens.specs.Texts.{IsRead}
 use Rattle.jolie_tokens.proofs.Readings.{one_list}
 use Rattle.jolie_ast.specs.declared.tree.Definition.{Definition}
