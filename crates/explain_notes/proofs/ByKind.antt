@@ -27,7 +27,7 @@ of_the_unmet kind.Forgotten met content ms tree literal socket unanswered calls 
 of_the_unmet kind.TreeCut met content ms tree literal socket unanswered calls shared once = absurd (tree refl)
 of_the_unmet kind.LiteralCut met content ms tree literal socket unanswered calls shared once = absurd (literal refl)
 of_the_unmet kind.Unanswered met content ms tree literal socket unanswered calls shared once = absurd (unanswered refl)
-of_the_unmet kind.NotShared met content ms tree literal socket unanswered calls shared once = absurd (many refl)
+of_the_unmet kind.NotShared met content ms tree literal socket unanswered calls shared once = absurd (shared refl)
 of_the_unmet kind.AnsweredOnce met content ms tree literal socket unanswered calls shared once = absurd (once refl)
 
 -- a kind whose names no text meets
