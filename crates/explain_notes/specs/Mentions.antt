@@ -68,6 +68,7 @@ is_failing r = false
 -- the message of an operation is taken
 abbrev pub is_taken : Role → Bool
 is_taken role.Taken = true
+is_taken role.TakenInLoop = true
 is_taken r = false
 
 -- the nearest scope has a handler under `this`
@@ -78,6 +79,7 @@ is_undoing r = false
 -- in a loop
 abbrev pub looped_role : Role → Role
 looped_role role.Thrown = role.ThrownInLoop
+looped_role role.Taken = role.TakenInLoop
 looped_role r = r
 
 -- in a `while` that takes messages, as a service has one for message after message

@@ -48,6 +48,17 @@ abbrev pub notes_known : NoteKind → List (List ℕ) → Seen → List Noted
 notes_known k known ms =
     flat_map (λ (m : Mentioned). if is_noted k m.role && is_in m.name.text known then note k m.name ∷ [] else []) ms
 
+-- of the first mention in its roles whose name is known
+abbrev pub first_known : NoteKind → List (List ℕ) → Seen → List Noted
+first_known k known [] = []
+first_known k known (m ∷ ms) =
+    if is_noted k m.role && is_in m.name.text known then note k m.name ∷ [] else first_known k known ms
+
+-- of each name in its roles, where no name is met
+abbrev pub notes_unmet : NoteKind → List (List ℕ) → Seen → List Noted
+notes_unmet k [] ms = notes_after k [] ms
+notes_unmet k (name ∷ met) ms = []
+
 -- the answers that are set nowhere: of each request whose operation is not content with void, where its body does not
 -- set the variable, and no part of the service does that these texts tell of
 abbrev pub unanswered_after : List (List ℕ) → List (List ℕ) → Bool → Seen → List Noted
@@ -70,13 +81,15 @@ called_after ports known there (m ∷ ms) =
 
 -- the notes of a kind, by the texts that meet its names and by the operations that are content with void: where values
 -- are cut, and of a socket of its own, it is noted of names that are met, otherwise of those that are not; where a call
--- ends a loop, by the ports that are met
+-- ends a loop, by the ports that are met; of what is not shared once, and of what is answered once where nothing is met
 abbrev pub notes_by : NoteKind → List (List ℕ) → List (List ℕ) → Seen → List Noted
 notes_by kind.TreeCut met content ms = notes_known kind.TreeCut met ms
 notes_by kind.LiteralCut met content ms = notes_known kind.LiteralCut met ms
 notes_by kind.OwnSocket met content ms = notes_known kind.OwnSocket met ms
 notes_by kind.Unanswered met content ms = unanswered_after content met false ms
 notes_by kind.CallEndsLoop met content ms = called_after met [] false ms
+notes_by kind.NotShared met content ms = first_known kind.NotShared met ms
+notes_by kind.AnsweredOnce met content ms = notes_unmet kind.AnsweredOnce met ms
 notes_by k met content ms = notes_after k met ms
 
 -- ---- what meets a name
@@ -100,13 +113,14 @@ standard_faults =
     ∷ codes "ExprFault" ∷ codes "HandlerTooLarge" ∷ codes "StoreTooLarge" ∷ []
 
 -- the texts that meet a name of a kind in a file of which this is told, whatever is mentioned: `main` is the outermost
--- scope, whose faults stand below its name
+-- scope, whose faults stand below its name, and `global` is what sessions share in another Jolie
 abbrev pub texts_met : Told → NoteKind → List (List ℕ)
 texts_met t kind.Uncaught = t.faults
 texts_met t kind.UncaughtInLoop = t.faults
 texts_met t kind.Unthrown = t.faults ++ standard_faults
 texts_met t kind.OwnSocket = t.sockets
 texts_met t kind.Unset = codes "main" ∷ []
+texts_met t kind.NotShared = codes "global" ∷ []
 texts_met t k = []
 
 -- the notes of a kind where this is seen, in a file of which this is told
@@ -124,8 +138,9 @@ kinds_always =
 -- the kinds that are noted of a service by how its sessions are run
 abbrev pub kinds_by_sessions : Service → List NoteKind
 kinds_by_sessions s =
-    if is_concurrent (execution_of s) then kind.UncaughtInLoop ∷ kind.EndsLoop ∷ kind.CallEndsLoop ∷ []
-    else kind.EndsService ∷ kind.EndsLoop ∷ kind.CallEndsLoop ∷ kind.Forgotten ∷ []
+    if is_concurrent (execution_of s)
+    then kind.UncaughtInLoop ∷ kind.EndsLoop ∷ kind.CallEndsLoop ∷ kind.NotShared ∷ []
+    else kind.EndsService ∷ kind.EndsLoop ∷ kind.CallEndsLoop ∷ kind.Forgotten ∷ kind.AnsweredOnce ∷ []
 
 -- what is noted of a service: of one kind after the other
 abbrev pub service_notes : Told → Service → List Noted

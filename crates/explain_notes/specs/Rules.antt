@@ -1,10 +1,19 @@
 -- Of which names what is noted.
-use Rattle.std.specs.Prelude.{Bool, true, false}
+use Rattle.std.specs.Prelude.{Bool, true, false, ◌||◌}
 use Rattle.explain_notes.specs.declared.role.Role.{Role}
 use Rattle.explain_notes.specs.declared.role.Role.TheVariants as role
 use Rattle.explain_notes.specs.Mentions.{is_free, is_set}
 use Rattle.explain_notes.specs.declared.kind.NoteKind.{NoteKind}
 use Rattle.explain_notes.specs.declared.kind.NoteKind.TheVariants as kind
+
+-- the value of a variable is used, or answered
+abbrev pub takes_value : Role → Bool
+takes_value role.Read = true
+takes_value role.FieldRead = true
+takes_value role.RootTaken = true
+takes_value role.Answered = true
+takes_value role.LeftUnset = true
+takes_value r = false
 
 -- it may be noted of a name in this role
 abbrev pub is_noted : NoteKind → Role → Bool
@@ -27,16 +36,10 @@ is_noted kind.Forgotten role.Kept = true
 is_noted kind.TreeCut role.RootTaken = true
 is_noted kind.LiteralCut role.Flattened = true
 is_noted kind.Unanswered role.LeftUnset = true
+is_noted kind.NotShared r = is_set r || takes_value r
+is_noted kind.AnsweredOnce role.Asked = true
+is_noted kind.AnsweredOnce role.Acknowledged = true
 is_noted k r = false
-
--- the value of a variable is used, or answered
-abbrev pub takes_value : Role → Bool
-takes_value role.Read = true
-takes_value role.FieldRead = true
-takes_value role.RootTaken = true
-takes_value role.Answered = true
-takes_value role.LeftUnset = true
-takes_value r = false
 
 -- what meets a name is that it stands in this role too: a scope meets a variable, as its faults stand below its name
 abbrev pub is_met : NoteKind → Role → Bool
@@ -57,6 +60,7 @@ is_met kind.LiteralCut role.Flattened = true
 is_met kind.Unanswered role.Set = true
 is_met kind.Unanswered role.Kept = true
 is_met kind.Unanswered role.Received = true
+is_met kind.AnsweredOnce role.TakenInLoop = true
 is_met k r = false
 
 -- a port that something is sent to

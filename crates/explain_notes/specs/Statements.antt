@@ -91,7 +91,7 @@ answered_role variable inside = if sets variable inside || faults inside then ro
 
 -- a request of an operation, by what it takes and does, where its answer stands
 abbrev pub request_mentions : Name → Option Path → Seen → Seen
-request_mentions operation None inside = inside
+request_mentions operation None inside = mention role.Acknowledged operation ∷ inside
 request_mentions operation (Some path) inside =
     mention role.Asked operation
     ∷ (path_mentions (answered_role (variable_of path) inside) path

@@ -133,6 +133,7 @@ pub fn texts_met<'a>(
         NoteKind::Unthrown => all_faults(alloc, facts.faults()),
         NoteKind::OwnSocket => same_names(alloc, facts.sockets()),
         NoteKind::Unset => outermost(alloc),
+        NoteKind::NotShared => shared_elsewhere(alloc),
         _ => Ok(Names::new(alloc)),
     }
 }
@@ -143,5 +144,14 @@ fn outermost<'a>(alloc: Global) -> Result<Names<'a>, AllocError>
 {
     let mut names = Names::new(alloc);
     names.add("main")?;
+    Ok(names)
+}
+
+/// The variable that sessions share in another Jolie.
+fn shared_elsewhere<'a>(alloc: Global) -> Result<Names<'a>, AllocError>
+    ensures { IfOk result (λ names. names ≡ codes "global" ∷ []) }
+{
+    let mut names = Names::new(alloc);
+    names.add("global")?;
     Ok(names)
 }

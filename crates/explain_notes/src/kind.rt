@@ -38,6 +38,10 @@ pub enum NoteKind {
     LiteralCut,
     /// A variable that a request is answered by, which nothing sets.
     Unanswered,
+    /// A variable `global` in a service whose sessions run beside each other.
+    NotShared,
+    /// An operation that is answered, in a service of one session that takes no message in a loop.
+    AnsweredOnce,
 }
 
 impl NoteKind {
@@ -61,6 +65,8 @@ impl NoteKind {
             NoteKind::TreeCut => matches!(role, Role::RootTaken),
             NoteKind::LiteralCut => matches!(role, Role::Flattened),
             NoteKind::Unanswered => matches!(role, Role::LeftUnset),
+            NoteKind::NotShared => role.is_set() || takes_value(role),
+            NoteKind::AnsweredOnce => matches!(role, Role::Asked | Role::Acknowledged),
         }
     }
 
@@ -84,6 +90,8 @@ impl NoteKind {
             NoteKind::TreeCut => matches!(role, Role::Branched | Role::FieldRead),
             NoteKind::LiteralCut => matches!(role, Role::Flattened),
             NoteKind::Unanswered => matches!(role, Role::Set | Role::Kept | Role::Received),
+            NoteKind::NotShared => false,
+            NoteKind::AnsweredOnce => matches!(role, Role::TakenInLoop),
         }
     }
 }

@@ -341,7 +341,10 @@ impl<'a> Mentions<'a> {
                 self.path(role, path)?;
                 self.add_requested(variable, inside)
             }
-            None => self.add_all(inside),
+            None => {
+                self.add(Role::Acknowledged, operation)?;
+                self.add_all(inside)
+            }
         }
     }
 

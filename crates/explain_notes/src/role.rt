@@ -34,6 +34,10 @@ pub enum Role {
     CallingInLoop,
     /// An operation whose message is taken.
     Taken,
+    /// The same in a loop.
+    TakenInLoop,
+    /// An operation that is answered without a variable.
+    Acknowledged,
     /// An operation whose body sets a variable that is answered, or should.
     Asked,
     /// The variable that it answers, where its body sets it or a fault may leave the body.
@@ -109,7 +113,7 @@ impl Role {
     pub(crate) fn is_taken(self) -> bool
         ensures { result ≡ spec.is_taken self }
     {
-        matches!(self, Role::Taken)
+        matches!(self, Role::Taken | Role::TakenInLoop)
     }
 
     /// Whether the nearest scope has a handler under `this`.
@@ -125,6 +129,7 @@ impl Role {
     {
         match self {
             Role::Thrown => Role::ThrownInLoop,
+            Role::Taken => Role::TakenInLoop,
             _ => self,
         }
     }

@@ -46,6 +46,8 @@ fn add_by<'a>(
         NoteKind::OwnSocket => add_known(kind, met, mentions, notes),
         NoteKind::Unanswered => add_unanswered_after(content, met, mentions, notes),
         NoteKind::CallEndsLoop => add_called_after(alloc, met, mentions, notes),
+        NoteKind::NotShared => add_first_known(kind, met, mentions, notes),
+        NoteKind::AnsweredOnce => add_unmet(kind, met, mentions, notes),
         _ => add_unknown(kind, met, mentions, notes),
     }
 }
@@ -65,6 +67,40 @@ fn add_known<'a>(
         }
     }
     Ok(())
+}
+
+/// The note of a kind: of the first mention in its roles whose name is known.
+fn add_first_known<'a>(
+    kind: NoteKind,
+    known: &Names<'a>,
+    mentions: &[Mention<'a>],
+    notes: &mut Vec<Note<'a>>,
+) -> Result<(), AllocError>
+    ensures { OnOk result (notes.new.items ≡ notes.old.items ++ spec.first_known kind known.now mentions.now) }
+{
+    for mention in mentions {
+        if kind.is_of(mention.role()) && known.has(mention.text()) {
+            notes.push(Note::new(kind, mention))?;
+            return Ok(());
+        }
+    }
+    Ok(())
+}
+
+/// The notes of a kind: of each name in its roles, where no name is met.
+#[tactic(auto, using(crate::proofs::ByKind::where_none_is_met, crate::proofs::ByKind::where_one_is_met))]
+fn add_unmet<'a>(
+    kind: NoteKind,
+    met: &mut Names<'a>,
+    mentions: &[Mention<'a>],
+    notes: &mut Vec<Note<'a>>,
+) -> Result<(), AllocError>
+    ensures { OnOk result (notes.new.items ≡ notes.old.items ++ spec.notes_unmet kind met.old mentions.now) }
+{
+    if met.len() > 0 {
+        return Ok(());
+    }
+    add_unknown(kind, met, mentions, notes)
 }
 
 /// Adds the names that stand in roles that meet them.

@@ -28,18 +28,20 @@ const ALWAYS: [NoteKind; 10] = [
 ];
 
 /// The kinds that are noted of a service whose sessions run beside each other.
-const OF_MANY: [NoteKind; 3] = [
+const OF_MANY: [NoteKind; 4] = [
     NoteKind::UncaughtInLoop,
     NoteKind::EndsLoop,
     NoteKind::CallEndsLoop,
+    NoteKind::NotShared,
 ];
 
 /// The kinds that are noted of a service of one session.
-const OF_ONE: [NoteKind; 4] = [
+const OF_ONE: [NoteKind; 5] = [
     NoteKind::EndsService,
     NoteKind::EndsLoop,
     NoteKind::CallEndsLoop,
     NoteKind::Forgotten,
+    NoteKind::AnsweredOnce,
 ];
 
 /// What is noted of a file: of one service after the other.

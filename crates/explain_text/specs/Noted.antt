@@ -27,6 +27,9 @@ note_words kind.Forgotten = codes "this variable is set, and nothing reads it"
 note_words kind.TreeCut = codes "`=` takes the root alone: `<<` copies what stands below it too"
 note_words kind.LiteralCut = codes "`=` sets the root alone: `<<` copies the members of the literal too"
 note_words kind.Unanswered = codes "this is answered, and nothing sets it"
+note_words kind.NotShared = codes "each session has a `global` of its own: a single service keeps what sessions share"
+note_words kind.AnsweredOnce =
+    codes "this is answered once, and later callers are refused: write `execution: concurrent`, or a loop"
 
 -- it is noted of a handler
 abbrev pub is_of_handler : NoteKind → Bool

@@ -130,5 +130,11 @@ fn words(kind: NoteKind) -> &'static str
             "`=` sets the root alone: `<<` copies the members of the literal too"
         }
         NoteKind::Unanswered => "this is answered, and nothing sets it",
+        NoteKind::NotShared => {
+            "each session has a `global` of its own: a single service keeps what sessions share"
+        }
+        NoteKind::AnsweredOnce => {
+            "this is answered once, and later callers are refused: write `execution: concurrent`, or a loop"
+        }
     }
 }
