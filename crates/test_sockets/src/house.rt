@@ -14,9 +14,10 @@ use std::time::{Duration, Instant};
 /// How often something is tried that is not there yet, with a rest between.
 const TRIES: u32 = 200;
 
-/// The milliseconds of a rest, and of one that is said to have lasted.
+/// The milliseconds of a rest.
 const REST: u64 = 100;
 
+/// The fewest milliseconds of a rest that did not end at once.
 const LASTING: u128 = 20;
 
 /// Doors with all that is theirs. A word is about the last of each kind, where it does not say *first*.
