@@ -2,8 +2,8 @@ use std::alloc::{AllocError, Global};
 use std::sync::atomic::{AtomicBool, AtomicU64, Ordering};
 
 /// How many places a board has, four for each connection of a full front. Where more sockets are open at once some share
-/// a place, and what is reported there: each is then called once too often, and none too seldom, and what comes to one
-/// that is not waited for ends rests for another.
+/// a place and what is reported there: each is then called once too often, and rests end for that, but none is called too
+/// seldom.
 pub(crate) const PLACES: usize = 4_096;
 
 /// What the poll has reported of the sockets of a place, and whether somebody waits for that.
@@ -60,7 +60,7 @@ impl Board {
         })
     }
 
-    /// A place for one more socket, which nobody else holds where there is such a one.
+    /// A place for one more socket: one that no other holds, or where there is none, one that it shares.
     pub(crate) fn take_place(&self) -> usize {
         for _ in 0..PLACES {
             let place = self.next_place();
