@@ -1,13 +1,16 @@
 use std::alloc::{AllocError, Global};
 use std::sync::atomic::{AtomicBool, AtomicU64, Ordering};
 
-/// How many places a board has. Where more sockets are open, those of one place share what is reported there: each is
-/// then called once too often, and none too seldom.
+/// How many places a board has, four for each connection of a full front. Where more sockets are open at once some share
+/// a place and what is reported there: each is then called once too often, and rests end for that, but none is called too
+/// seldom.
 pub(crate) const PLACES: usize = 4_096;
 
 /// What the poll has reported of the sockets of a place, and whether somebody waits for that.
 #[derive(Drop)]
 struct Place {
+    /// How many sockets hold it: one at most, as long as there are places for all.
+    holders: AtomicU64,
     /// How often something was reported.
     rings: AtomicU64,
     /// How often it was that a peer sends no more.
@@ -22,7 +25,8 @@ struct Place {
 #[derive(Drop)]
 pub(crate) struct Board {
     places: Vec<Place>,
-    given: AtomicU64,
+    /// How many places were tried for those who wanted one: each in turn.
+    tried: AtomicU64,
     looks: AtomicU64,
     now: AtomicU64,
     /// How many rests there were, with one before the first, and how much is due since: the places with something, and
@@ -38,6 +42,7 @@ impl Board {
         let mut places = Vec::new(alloc);
         for _ in 0..PLACES {
             places.push(Place {
+                holders: AtomicU64::new(0),
                 rings: AtomicU64::new(0),
                 ends: AtomicU64::new(0),
                 waiting: AtomicU64::new(0),
@@ -46,7 +51,7 @@ impl Board {
         }
         Ok(Board {
             places,
-            given: AtomicU64::new(0),
+            tried: AtomicU64::new(0),
             looks: AtomicU64::new(0),
             now: AtomicU64::new(0),
             rests: AtomicU64::new(1),
@@ -55,9 +60,47 @@ impl Board {
         })
     }
 
-    /// The place of one more socket: each in turn.
-    pub(crate) fn next_place(&self) -> usize {
-        self.given.fetch_add(1, Ordering::SeqCst) as usize % PLACES
+    /// A place for one more socket: one that no other holds, or where there is none, one that it shares.
+    pub(crate) fn take_place(&self) -> usize {
+        for _ in 0..PLACES {
+            let place = self.next_place();
+            if self.claim(place) {
+                return place;
+            }
+        }
+        let place = self.next_place();
+        self.share(place);
+        place
+    }
+
+    /// The place that is tried next.
+    fn next_place(&self) -> usize {
+        self.tried.fetch_add(1, Ordering::SeqCst) as usize % PLACES
+    }
+
+    /// Takes a place if nobody holds it. It says whether that is so.
+    fn claim(&self, place: usize) -> bool {
+        match self.places.get(place) {
+            Some(place) => place
+                .holders
+                .compare_exchange(0, 1, Ordering::SeqCst, Ordering::SeqCst)
+                .is_ok(),
+            None => false,
+        }
+    }
+
+    /// Takes a place that others hold too.
+    fn share(&self, place: usize) {
+        if let Some(place) = self.places.get(place) {
+            place.holders.fetch_add(1, Ordering::SeqCst);
+        }
+    }
+
+    /// Notes that a socket holds its place no more, and waits for nothing there.
+    pub(crate) fn free_place(&self, place: usize) {
+        if let Some(place) = self.places.get(place) {
+            place.holders.fetch_sub(1, Ordering::SeqCst);
+        }
     }
 
     /// How often something was reported at a place.

@@ -27,14 +27,15 @@ pub(crate) struct Seat<H: Net + Clock + Eprint + Copy + Drop> {
 }
 
 impl<H: Net + Clock + Eprint + Copy + Drop> Seat<H> {
-    /// A seat at the next place.
+    /// A seat at a place of its own.
     pub(crate) fn new(poller: &Arc<Poller<H>>) -> Result<Seat<H>, AllocError> {
+        let poller = Arc::try_clone(poller)?;
         let board = poller.board();
-        let place = board.next_place();
+        let place = board.take_place();
         let ends = board.ends(place);
         let seen = board.looks();
         Ok(Seat {
-            poller: Arc::try_clone(poller)?,
+            poller,
             place,
             ends,
             seen,
@@ -42,7 +43,7 @@ impl<H: Net + Clock + Eprint + Copy + Drop> Seat<H> {
         })
     }
 
-    /// A seat at the next place for a socket that came at this one.
+    /// A seat at a place of its own for a socket that came at this one.
     pub(crate) fn another(&self) -> Result<Seat<H>, AllocError> {
         Seat::new(&self.poller)
     }
@@ -136,10 +137,11 @@ impl<H: Net + Clock + Eprint + Copy + Drop> Seat<H> {
     }
 }
 
-/// Nobody waits at a seat that is given up.
+/// Nobody waits at a seat that is given up, and its place is free.
 impl<H: Net + Clock + Eprint + Copy + Drop> Drop for Seat<H> {
     fn drop(mut self) {
         self.attend();
+        self.poller.board().free_place(self.place);
         let Seat {
             poller: _,
             place: _,

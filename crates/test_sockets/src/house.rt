@@ -9,7 +9,7 @@ use std::io::{Eprint, PipeReader, PipeWriter};
 use std::net::{Net, SocketAddr};
 use std::os::fd::AsRawFd;
 use std::rt::Clock;
-use std::time::Duration;
+use std::time::{Duration, Instant};
 
 /// How often something is tried that is not there yet, with a rest between.
 const TRIES: u32 = 200;
@@ -17,10 +17,14 @@ const TRIES: u32 = 200;
 /// The milliseconds of a rest.
 const REST: u64 = 100;
 
+/// The fewest milliseconds of a rest that did not end at once.
+const LASTING: u128 = 20;
+
 /// Doors with all that is theirs. A word is about the last of each kind, where it does not say *first*.
 #[derive(Drop)]
 pub struct House<H: Net + Clock + Eprint + Copy + Drop> {
     alloc: Global,
+    host: H,
     doors: SocketDoors<H>,
     open: Vec<SocketDoor<H>>,
     wires: Vec<DoorWire<H>>,
@@ -44,6 +48,7 @@ impl<H: Net + Clock + Eprint + Copy + Drop> House<H> {
         let (input, hold) = input;
         House {
             alloc,
+            host,
             doors: SocketDoors::new(alloc, host, patience, Some(input.as_raw_fd())),
             open: Vec::new(alloc),
             wires: Vec::new(alloc),
@@ -60,9 +65,11 @@ impl<H: Net + Clock + Eprint + Copy + Drop> House<H> {
         match verb {
             "open" => self.open(rest),
             "come" => self.come(rest),
+            "pass" => self.pass(rest.parse().unwrap_or(0)),
             "look" => self.accept(rest, 1),
             "accept" => self.accept(rest, TRIES),
             "rest" => self.rest(),
+            "doze" => self.doze(),
             "shut" => self.shut(),
             "glance" => self.read(1),
             "read" => self.read(TRIES),
@@ -121,6 +128,20 @@ impl<H: Net + Clock + Eprint + Copy + Drop> House<H> {
         }
     }
 
+    /// So many come one by one, are let in and go.
+    fn pass(&mut self, count: u32) -> Result<String, AllocError> {
+        for _ in 0..count {
+            self.come("")?;
+            let said = self.accept("", TRIES)?;
+            if said.as_str() != "came" {
+                return Ok(said);
+            }
+            self.back()?;
+            self.guests.go()?;
+        }
+        self.say("passed")
+    }
+
     /// Tries so often to let somebody in, with a rest between.
     fn accept(&mut self, which: &str, tries: u32) -> Result<String, AllocError> {
         for _ in 0..tries {
@@ -148,6 +169,19 @@ impl<H: Net + Clock + Eprint + Copy + Drop> House<H> {
             door.rest();
         }
         self.say("rested")
+    }
+
+    /// Rests, and says whether that lasted or ended at once.
+    fn doze(&mut self) -> Result<String, AllocError> {
+        let start = Instant::now(&self.host);
+        self.rest()?;
+        let end = Instant::now(&self.host);
+        match (start, end) {
+            (Ok(start), Ok(end)) if end.duration_since(start).as_millis() < LASTING => {
+                self.say("woken")
+            }
+            _ => self.say("dozed"),
+        }
     }
 
     fn shut(&mut self) -> Result<String, AllocError> {
