@@ -132,8 +132,8 @@ paused_on d k for_wire l m g s r h = at (is_writing l) refl
     at : (b : Bool) → is_writing l ≡ b → WasPaused true d k (cond b for_room for_wire) m
     at true e = (
       refl,
-      since d.received.waits l.waits m.waits (2 ^ 64 - 1) h.1.0 g.waits,
-      within_longest d.received.waits l.in_a_row l.longest m.longest (2 ^ 64 - 1) h.1.1 (r (inr (writes_is (stage_at l) e))) g.longest,
+      since d.received.waits l.waits m.waits (2 ^ 64 - 1) h.1 g.waits,
+      within_longest d.received.waits l.in_a_row l.longest m.longest (2 ^ 64 - 1) h.2 (r (inr (writes_is (stage_at l) e))) g.longest,
     )
     at false e = subst (WasPaused true d k for_wire) (sym (s e)) h
 paused_on d k for_room l m g s r h = absurd (true≢false (sym h.0))

@@ -118,7 +118,11 @@ module _ (d later : Exchange) (same : later.received ≡ d.received) (ts : List 
     (seen : d.received.seen ≤ length d.sent.told) where
   was_paused-more : (k : ℕ) (p : Pause) (l : ClientTold) → WasPaused false d k p l → WasPaused false later k p l
   was_paused-more k for_answer l h = no_answer-more d later k same ts more seen h
-  was_paused-more k for_wire l h = (h.0, subst (λ n. (n ≤ l.waits) × (n ≤ l.in_a_row)) (sym (row_same d later same)) h.1)
+  was_paused-more k for_wire l h = (
+    h.0,
+    subst (λ n. n ≤ l.waits) (sym (row_same d later same)) h.1,
+    subst (λ n. n ≤ l.in_a_row) (sym (row_same d later same)) h.2,
+  )
   was_paused-more k for_room l h = absurd (true≢false (sym h.0))
   was_paused-more k at_end l h = h
 
@@ -134,7 +138,7 @@ owing_paused : (d : Exchange) (k : ℕ) (p : Pause) (l after : ClientTold) → s
     → WasPaused false d k p after
 owing_paused d k for_answer l after owes writes waits row h = h
 owing_paused d k for_wire l after owes writes waits row h =
-    (ap is_open_at writes, subst (λ n. row_of d ≤ n) (sym waits) h.1.0, subst (λ n. row_of d ≤ n) (sym row) h.1.1)
+    (ap is_open_at writes, subst (λ n. row_of d ≤ n) (sym waits) h.1, subst (λ n. row_of d ≤ n) (sym row) h.2)
 owing_paused d k for_room l after owes writes waits row h = absurd (true≢false (sym h.0))
 owing_paused d k at_end l after owes writes waits row h = absurd (not_over (stage_of l.seen.kept.next) owes h)
 

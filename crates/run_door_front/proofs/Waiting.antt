@@ -1,5 +1,5 @@
 -- When a front over doors has no posting.
-use Rattle.std.proofs.Common.{◌≡◌, refl, sym, ap, ap₂, ◌∙◌, subst, arith, ℕ, suc, ◌+◌, ◌-◌, ◌^◌, ◌≤◌, min, Bool, true, false, not, cond, ◌||◌, ◌⊎◌, inl, inr, List, [], ◌∷◌, length, map, take, Some, count_by, slice_get, nat_eq, nat_le}
+use Rattle.std.proofs.Common.{◌≡◌, refl, sym, ap, ap₂, ◌∙◌, subst, arith, ℕ, suc, ◌+◌, ◌-◌, ◌^◌, ◌≤◌, min, Bool, true, false, not, cond, ◌&&◌, ◌||◌, ◌⊎◌, inl, inr, List, [], ◌∷◌, length, map, take, Some, count_by, slice_get, nat_eq, nat_le}
 use Rattle.std.specs.Prelude.{Contains}
 use Rattle.std.specs.List.{list_all, list_any}
 use Rattle.std.proofs.lemmas.Bool.{and_parts, and_from, le-leb, leb-true, true≢false}
@@ -232,7 +232,7 @@ module _ (IsMade : WireTold → Type 0) (parts : ProgramParts) (leads : List Lea
         at true o e f h = answer e
         at false true e f (inl owing) = absurd (true≢false (sym owing))
         at false true e f (inr (inl over)) = absurd (true≢false over)
-        at false true e f (inr (inr row)) = (f, row)
+        at false true e f (inr (inr row)) = (f, row.0, row.1)
         at false false e f h = closed_over (stage_at m) f
 
     owing_by : (m : ClientTold) → owes m || not (is_open m) ≡ true → (owes m ≡ true → HadNoAnswer d k) → WasPaused false d k (pause_of m) m
@@ -299,7 +299,7 @@ module _ (IsMade : WireTold → Type 0) (parts : ProgramParts) (leads : List Lea
     where
       at_one : (p : Pause) → WasPaused false d k p l → is_unended p ≡ is_open l
       at_one for_answer n = sym (owes_open (stage_at l) (owing_first k l ls f n))
-      at_one for_wire h = sym (h.0 refl)
+      at_one for_wire h = sym h.0
       at_one for_room h = absurd (true≢false (sym h.0))
       at_one at_end over = sym (over_closed (stage_at l) over is_open_at refl refl refl refl)
 
@@ -311,7 +311,7 @@ module _ (IsMade : WireTold → Type 0) (parts : ProgramParts) (leads : List Lea
     where
       at_one : (p : Pause) → WasPaused false d k p l → HasRow (row_of d) l
       at_one for_answer n = inl (owing_first k l ls f n)
-      at_one for_wire h = inr (inr h.1)
+      at_one for_wire h = inr (inr (h.1, h.2))
       at_one for_room h = absurd (true≢false (sym h.0))
       at_one at_end over = inr (inl (over_closed (stage_at l) over is_open_at refl refl refl refl))
 

@@ -139,11 +139,11 @@ module _ {new : Exchange} (IsMade : WireTold → Type 0) (parts : ProgramParts) 
   quiet_so none row n (x ∷ xs) (l ∷ ls) [] a b = absurd a
   quiet_so none row n (for_answer ∷ xs) (l ∷ ls) (v ∷ vs) a b = (waited_for none n b.0, quiet_so none row (suc n) xs ls vs a.1 b.1)
   quiet_so none row n (for_wire ∷ xs) (l ∷ ls) (v ∷ vs) a b = (
-    (λ over. open_unended (stage_at l) b.0.0 (subst IsOverAt a.0.stage over), subst (λ m. (m ≤ l.waits) × (m ≤ l.in_a_row)) row b.0.1),
+    (λ over. open_unended (stage_at l) b.0.0 (subst IsOverAt a.0.stage over), subst (λ m. m ≤ l.waits) row b.0.1, subst (λ m. m ≤ l.in_a_row) row b.0.2),
     quiet_so none row (suc n) xs ls vs a.1 b.1,
   )
   quiet_so none row n (for_room ∷ xs) (l ∷ ls) (v ∷ vs) a b =
-      (subst (λ m. (m ≤ l.waits) × (m ≤ l.longest)) row b.0.1, quiet_so none row (suc n) xs ls vs a.1 b.1)
+      ((subst (λ m. m ≤ l.waits) row b.0.1, subst (λ m. m ≤ l.longest) row b.0.2), quiet_so none row (suc n) xs ls vs a.1 b.1)
   quiet_so none row n (at_end ∷ xs) (l ∷ ls) (v ∷ vs) a b = (subst IsOverAt (sym a.0.stage) b.0, quiet_so none row (suc n) xs ls vs a.1 b.1)
 
   -- each paused so where none paused for its wire
