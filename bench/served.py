@@ -1,6 +1,7 @@
 """The program that serves a file, and peers that call it: what bench/clients.py and bench/crowds.py share."""
 import contextlib
 import os
+import random
 import signal
 import socket
 import subprocess
@@ -89,6 +90,14 @@ class Peer:
     def close(self):
         self.file.close()
         self.socket.close()
+
+
+def free_port():
+    """A port at which nobody listens, below those that the system hands out by itself."""
+    for port in random.sample(range(18000, 32000), 1000):
+        with contextlib.suppress(OSError), socket.create_server(("127.0.0.1", port)):
+            return port
+    raise SystemExit("no port is free")
 
 
 def connect(port=8000, wait=5):

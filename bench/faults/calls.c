@@ -5,7 +5,11 @@
            descriptors from 3 on that are open where the program ends.
    WRONG   NAME:NUMBER:HOW: which call of that name goes wrong, counted from 1. HOW is an errno, with which it fails,
            0 where it gives nothing, or -1 where it moves one byte alone.
-   PIECE   how many bytes a read or a write moves at most. */
+   PIECE   how many bytes a read or a write moves at most.
+   DRAWN   RATE:SEED NAME=HOW,HOW .. : of so many calls of these names one goes wrong, in one of the ways of its name,
+           as the seed draws it; for soak.sh.
+   SUM     a file that gets a line for each of these names where the program ends: the name, how many calls were made,
+           how many went wrong, and how many of these otherwise than by EINTR or by one byte alone. */
 #define _GNU_SOURCE
 #include <dlfcn.h>
 #include <errno.h>
@@ -16,6 +20,7 @@
 #include <stdio.h>
 #include <stdlib.h>
 #include <string.h>
+#include <sys/epoll.h>
 #include <sys/ioctl.h>
 #include <sys/socket.h>
 #include <unistd.h>
@@ -25,10 +30,59 @@ enum { NOTHING = 0, ONE_BYTE = -1, RIGHT = -2 };
 /* Where the calls are told, above all descriptors of the program. */
 enum { TOLD = 1000 };
 
+/* How many names DRAWN may have, and how many ways each of them. */
+enum { MOST_NAMES = 16, MOST_WAYS = 16 };
+
 static char wrong_name[16];
 static long wrong_number, count;
 static int wrong_how;
 static size_t piece = (size_t)-1;
+
+/* A name of DRAWN, its ways, and what was counted of it. */
+static struct drawn {
+    char name[16];
+    int ways[MOST_WAYS], way_count;
+    long calls, wrong, harmful;
+} drawn[MOST_NAMES];
+static int drawn_count;
+static unsigned long rate, state;
+
+/* A number that is drawn. */
+static unsigned long draw(void) {
+    state = state * 6364136223846793005UL + 1442695040888963407UL;
+    return state >> 33;
+}
+
+/* Reads the names of DRAWN and their ways. */
+static void read_drawn(char *text) {
+    int length;
+    if (sscanf(text, "%lu:%lu%n", &rate, &state, &length) != 2 || !rate) _exit(99);
+    for (char *name = strtok(text + length, " "); name; name = strtok(NULL, " ")) {
+        char *ways = strchr(name, '=');
+        if (!ways || drawn_count == MOST_NAMES) _exit(99);
+        struct drawn *it = &drawn[drawn_count++];
+        *ways++ = 0;
+        strncpy(it->name, name, sizeof it->name - 1);
+        while (*ways && it->way_count < MOST_WAYS) {
+            it->ways[it->way_count++] = strtol(ways, &ways, 10);
+            ways += *ways == ',';
+        }
+    }
+}
+
+/* How a call of that name ends: as it does, or wrong as it is drawn. */
+static int how_drawn(const char *name) {
+    for (struct drawn *it = drawn; it < drawn + drawn_count; it++) {
+        if (strcmp(name, it->name) != 0) continue;
+        it->calls++;
+        if (draw() % rate) return RIGHT;
+        int how = it->ways[draw() % it->way_count];
+        it->wrong++;
+        it->harmful += how != EINTR && how != ONE_BYTE;
+        return how;
+    }
+    return RIGHT;
+}
 
 #define REAL(name) ((__typeof__(name) *)dlsym(RTLD_NEXT, #name))
 
@@ -43,10 +97,13 @@ __attribute__((constructor)) static void start(void) {
     if (wrong && sscanf(wrong, "%15[^:]:%ld:%d", wrong_name, &wrong_number, &wrong_how) != 3) _exit(99);
     const char *most = getenv("PIECE");
     if (most) piece = strtoul(most, NULL, 10);
+    const char *many = getenv("DRAWN");
+    if (many) read_drawn(strdup(many));
 }
 
 /* How this call of that name ends: as it does, or wrong. */
 static int how_ends(const char *name) {
+    if (rate) return how_drawn(name);
     if (strcmp(name, wrong_name) != 0 || ++count != wrong_number) return RIGHT;
     return wrong_how;
 }
@@ -127,6 +184,11 @@ int poll(struct pollfd *asked, nfds_t number, int milliseconds) {
     FAILS(poll, number ? asked->fd : -1, 0, REAL(poll)(asked, number, milliseconds));
 }
 
+int epoll_wait(int file, struct epoll_event *events, int most, int milliseconds) {
+    int how = how_ends("epoll_wait");
+    return how > 0 ? failing(how) : REAL(epoll_wait)(file, events, most, milliseconds);
+}
+
 int setsockopt(int file, int level, int option, const void *value, socklen_t length) {
     FAILS(setsockopt, file, option, REAL(setsockopt)(file, level, option, value, length));
 }
@@ -184,4 +246,9 @@ __attribute__((destructor)) static void end(void) {
     int open_files = 0;
     for (int file = 3; file < TOLD; file++) open_files += REAL(fcntl)(file, F_GETFD) != -1;
     told("left_open", -1, 0, open_files, RIGHT);
+    const char *path = getenv("SUM");
+    if (!path) return;
+    int file = REAL(open)(path, O_CREAT | O_TRUNC | O_WRONLY, 0600);
+    for (struct drawn *it = drawn; it < drawn + drawn_count; it++)
+        dprintf(file, "%s %ld %ld %ld\n", it->name, it->calls, it->wrong, it->harmful);
 }
