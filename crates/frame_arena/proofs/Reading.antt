@@ -1,0 +1,135 @@
+-- What is read of a strand, and what is said of one that is not there.
+use Rattle.std.proofs.Common.{◌≡◌, ◌≢◌, ℕ, zero, suc, ◌+◌, ◌-◌, ◌<◌, ◌≤◌, Bool, true, false, List, [], ◌∷◌, ◌++◌, length, get_or, set, take, drop, map, replicate, Option, Some, None, sym, ap, subst, ◌∙◌, refl, arith, ⊎_elim}
+use Rattle.std.proofs.lemmas.Bool.{cases_lt, false≢true}
+use Rattle.std.proofs.lemmas.List.{length-map, map-append, get_or_default, set-get_or, get_or_append_left, set-append_left, length-append, length-replicate}
+use Rattle.frame_arena.specs.Line.{Line}
+use Rattle.frame_arena.specs.Lines.{no_line, new_line, line_at, is_live, with_frames, with_kept, with_members, without, forked, IsOrdered, IsNext}
+use Rattle.frame_arena.specs.Entries.{Entry, entry, entries, numbers, line_of, lines_from, new_entries}
+use Rattle.frame_arena.specs.Places.{Rises, IsRising, IsPlace, IsRowOf, IsNextRow, IsSound}
+use Rattle.frame_arena.specs.declared.row.Row.{Row}
+use Rattle.frame_arena.proofs.Rising.{rises_joined, rises_order}
+use Rattle.frame_arena.proofs.Found.{joined_below, none_there, new_rises, none_above}
+use Rattle.frame_arena.proofs.Lines.{length_lines, line_is, lines_joined, ordered_joined, stays}
+use Rattle.frame_arena.proofs.Rows.{entry_at}
+use Rattle.frame_arena.proofs.Changes.{Changed, length_of_numbers, number_of, row_at}
+
+-- the strand of a number, where its row is read
+pub read : {F K : Type 0} (rows : List (Row F K)) (ls : List (Line F K)) (next n k : ℕ) (x : Row F K) → IsSound (entries rows) next
+    → lines_from (entries rows) 0 next ≡ ls → IsRowOf (entries rows) n k → x ≡ get_or rows k x → line_at ls n ≡ (entry x).line
+read {F} {K} rows ls next n k x sound view row is =
+    ap (λ (l : List (Line F K)). line_at l n) (sym view) ∙ line_is (entries rows) next n sound.rises ∙ row.line (entry x)
+    ∙ ap (λ (e : Entry F K). e.line) (entry_at rows k x (entry x) (omega (arith, row.within, length-map rows (entry {F} {K}))) is)
+
+-- where it has none
+pub gone : {F K : Type 0} (es : List (Entry F K)) (ls : List (Line F K)) (next n : ℕ) → IsSound es next
+    → lines_from es 0 next ≡ ls → line_of es n ≡ no_line → line_at ls n ≡ no_line
+gone {F} {K} es ls next n sound view none = ap (λ (l : List (Line F K)). line_at l n) (sym view) ∙ line_is es next n sound.rises ∙ none
+
+-- a strand that is there has a row
+pub there : {F K : Type 0} (es : List (Entry F K)) (ls : List (Line F K)) (next n : ℕ) → IsSound es next
+    → lines_from es 0 next ≡ ls → (line_at ls n).is_live ≡ true → (line_of es n).is_live ≡ true
+there {F} {K} es ls next n sound view live =
+    ap (λ (l : Line F K). l.is_live) (sym (line_is es next n sound.rises) ∙ ap (λ (l : List (Line F K)). line_at l n) view) ∙ live
+
+-- and one that has a row is there
+pub lives : {F K : Type 0} (es : List (Entry F K)) (ls : List (Line F K)) (next n k : ℕ) → IsSound es next
+    → lines_from es 0 next ≡ ls → IsRowOf es n k → (line_at ls n).is_live ≡ true
+lives {F} {K} es ls next n k sound view row =
+    ap (λ (l : Line F K). l.is_live) (ap (λ (l : List (Line F K)). line_at l n) (sym view) ∙ line_is es next n sound.rises) ∙ row.live
+
+-- its row is one of the rows
+pub within_rows : {F K : Type 0} (rows : List (Row F K)) (n k : ℕ) → IsRowOf (entries rows) n k → k < length rows
+within_rows {F} {K} rows n k row = omega (arith, row.within, length-map rows (entry {F} {K}))
+
+-- what changes nothing of a strand that is not there
+pub unchanged : {F K : Type 0} (ls : List (Line F K)) (n : ℕ) (f : Line F K → Line F K) → line_at ls n ≡ no_line → f no_line ≡ no_line → ls ≡ set ls n (f (line_at ls n))
+unchanged ls n f none same = sym (stays ls n (f (line_at ls n)) (none ∙ sym same ∙ ap f (sym none)))
+
+-- a change of rows, said of the strands that contracts see
+pub seen : {F K : Type 0} (es fs : List (Entry F K)) (ls : List (Line F K)) (next n : ℕ) (f : Line F K → Line F K)
+    → Changed es fs next n (f (line_at (lines_from es 0 next) n)) → lines_from es 0 next ≡ ls → lines_from fs 0 next ≡ set ls n (f (line_at ls n))
+seen {F} {K} es fs ls next n f changed view = changed.lines ∙ ap (λ (l : List (Line F K)). set l n (f (line_at l n))) view
+
+-- a strand that is there has a number that was given
+pub below_next : {F K : Type 0} (es : List (Entry F K)) (next n : ℕ) → IsSound es next → (line_of es n).is_live ≡ true → n < next
+below_next {F} {K} es next n sound live =
+    ⊎_elim
+    (λ (below : n < next). below)
+    (λ (above : next ≤ n). absurd (false≢true (ap (λ (l : Line F K). l.is_live) (sym (none_above es 0 next n sound.rises above)) ∙ live)))
+    (cases_lt n next)
+
+-- new rows after the others
+pub grown : {F K : Type 0} (es : List (Entry F K)) (next n count : ℕ) → IsSound es next → (line_of es n).is_live ≡ true
+    → IsSound (es ++ new_entries (Some n) next count) (next + count)
+grown {F} {K} es next n count sound live =
+    let more : List (Entry F K) = new_entries (Some n) next count in
+    let numbered : numbers (es ++ more) ≡ numbers es ++ numbers more = map-append (λ (e : Entry F K). e.number) es more in
+    let below : n < next = below_next es next n sound live in
+    record {
+      rises = subst (λ ns. Rises 0 ns (next + count)) (sym numbered)
+          (rises_joined (numbers es) (numbers more) 0 next (next + count) sound.rises (new_rises {F} {K} (Some n) next count));
+      ordered = subst (λ (l : List (Line F K)). IsOrdered l) (sym (lines_joined es next count (Some n) sound.rises))
+          (ordered_joined (lines_from es 0 next) count n (omega (arith, below, length_lines es 0 next)) sound.ordered);
+    }
+
+pub grown_line : {F K : Type 0} (es : List (Entry F K)) (next n count : ℕ) → IsSound es next → (line_of es n).is_live ≡ true
+    → (line_of (es ++ new_entries (Some n) next count) n).is_live ≡ true
+grown_line {F} {K} es next n count sound live =
+    ap (λ (l : Line F K). l.is_live) (joined_below es (new_entries (Some n) next count) next (next + count) n
+    (new_rises {F} {K} (Some n) next count) (below_next es next n sound live)) ∙ live
+
+-- a strand with new members, which are put after all others
+pub forks : {F K : Type 0} (es fs : List (Entry F K)) (ls : List (Line F K)) (next n count : ℕ) → IsSound es next → (line_of es n).is_live ≡ true
+    → lines_from es 0 next ≡ ls
+    → Changed (es ++ new_entries (Some n) next count) fs (next + count) n
+    (let l = line_at (lines_from (es ++ new_entries (Some n) next count) 0 (next + count)) n in record l { first = next; count = count; undone = count })
+    → lines_from fs 0 (next + count) ≡ forked ls n count
+forks {F} {K} es fs ls next n count sound live view changed =
+    let old : List (Line F K) = lines_from es 0 next in
+    let news : List (Line F K) = replicate count (new_line (Some n)) in
+    let len : length old ≡ next = length_lines es 0 next in
+    let below : n < length old = omega (arith, len, below_next es next n sound live) in
+    let f : ℕ → Line F K → Line F K = λ m l. record l { first = m; count = count; undone = count } in
+    changed.lines
+    ∙ ap (λ (l : List (Line F K)). set l n (f next (line_at l n))) (lines_joined es next count (Some n) sound.rises)
+    ∙ ap (λ (l : Line F K). set (old ++ news) n (f next l)) (get_or_append_left old news no_line n below)
+    ∙ set-append_left old news n (f next (line_at old n)) below
+    ∙ ap (λ m. set old n (f m (line_at old n)) ++ news) (sym len)
+    ∙ ap (λ (l : List (Line F K)). forked l n count) view
+
+-- the first strand that is there
+pub next_is : {F K : Type 0} (es : List (Entry F K)) (ls : List (Line F K)) (next from k n : ℕ) (x : Entry F K) → IsSound es next → lines_from es 0 next ≡ ls
+    → IsNextRow es from k → get_or es k x ≡ x → x.number ≡ n → IsNext ls from n
+next_is {F} {K} es ls next from k n x sound view row at is =
+    let number : (get_or es k x).number ≡ n = ap (λ (e : Entry F K). e.number) at ∙ is in
+    let mine = row_at es next n k (get_or es k x) sound.rises row.within (λ d. get_or_default es k d x row.within) number (row.live x) in
+    record {
+      from_there = omega (arith, row.above x, number);
+      there = lives es ls next n k sound view mine;
+      none_before = λ m above below.
+          ap (λ (l : Line F K). l.is_live) (gone es ls next m sound view (row.none_before x m above (omega (arith, below, number))));
+    }
+
+pub none_next : {F K : Type 0} (es : List (Entry F K)) (ls : List (Line F K)) (next from : ℕ) → IsSound es next → lines_from es 0 next ≡ ls
+    → ((n : ℕ) → from ≤ n → line_of es n ≡ no_line) → (n : ℕ) → from ≤ n → is_live ls n ≡ false
+none_next {F} {K} es ls next from sound view none n above = ap (λ (l : Line F K). l.is_live) (gone es ls next n sound view (none n above))
+
+-- none is in use between the place of a number and the first that is
+pub dead_between : {F K : Type 0} (es : List (Entry F K)) (next from start k n : ℕ) (d : Entry F K) → Rises 0 (numbers es) next → IsPlace (numbers es) from start
+    → ((i : ℕ) → start ≤ i → i < k → (get_or es i d).line.is_live ≡ false)
+    → from ≤ n → (k < length es → n < (get_or es k d).number) → line_of es n ≡ no_line
+dead_between {F} {K} es next from start k n d r at dead above below =
+    none_there es n d
+    (λ i lt is.
+    let lt' : i < length (numbers es) = omega (arith, length_of_numbers es, lt) in
+    let same : get_or (numbers es) i 0 ≡ n = number_of es i d lt ∙ is in
+    ⊎_elim
+    (λ (before : i < start). absurd (omega (arith, same, above, at.before i before)))
+    (λ (after : start ≤ i).
+    ⊎_elim
+    (λ (inside : i < k). dead i after inside)
+    (λ (past : k ≤ i).
+    let here : k < length es = omega (arith, past, lt) in
+    absurd (omega (arith, same, below here, number_of es k d here, rises_order (numbers es) 0 next k i r past lt')))
+    (cases_lt i k))
+    (cases_lt i start))
