@@ -106,7 +106,7 @@ pub put_row : {F K : Type 0} (rows : List (Row F K)) (next n k : ℕ) (x r : Row
     → Changed (entries rows) (entries (set rows k r)) next n (f (line_at (lines_from (entries rows) 0 next) n))
 put_row {F} {K} rows next n k x r f sound row read is live fits parent =
     let es = entries rows in
-    let within : k < length rows = omega (arith, length-map rows (entry {F} {K}), row.within) in
+    let within : k < length rows = omega (arith, length-map rows (entry {F = F} {K = K}), row.within) in
     let at : get_or es k (entry x) ≡ entry x = entry_at rows k x (entry x) within read in
     let line : line_at (lines_from es 0 next) n ≡ (entry x).line = line_is es next n sound.rises ∙ row.line (entry x) ∙ ap (λ (e : Entry F K). e.line) at in
     let number : (entry r).number ≡ n = ap (λ (e : Entry F K). e.number) is ∙ sym (ap (λ (e : Entry F K). e.number) at) ∙ row.number (entry x) in
@@ -150,7 +150,7 @@ pub free_row : {F K : Type 0} (rows : List (Row F K)) (next n k : ℕ) (x r : Ro
     → Changed (entries rows) (entries (set rows k r)) next n no_line
 free_row {F} {K} rows next n k x r sound row read same dead =
     let es = entries rows in
-    let within : k < length rows = omega (arith, length-map rows (entry {F} {K}), row.within) in
+    let within : k < length rows = omega (arith, length-map rows (entry {F = F} {K = K}), row.within) in
     let at : get_or es k (entry x) ≡ entry x = entry_at rows k x (entry x) within read in
     let number : (entry r).number ≡ n = same ∙ sym (ap (λ (e : Entry F K). e.number) at) ∙ row.number (entry x) in
     let shows : shown (entry r) ≡ no_line = cond-false (entry r).line.is_live (entry r).line no_line dead in

@@ -89,18 +89,18 @@ lines_joined {F} {K} es next count parent r =
     let more : List (Entry F K) = new_entries parent next count in
     let all : List (Entry F K) = es ++ more in
     let news : List (Line F K) = replicate count (new_line parent) in
-    let rm = new_rises {F} {K} parent next count in
+    let rm = new_rises F K parent next count in
     let len = length_lines all 0 (next + count) in
     let old = length_lines es 0 next in
     ext_get_or no_line (lines_from all 0 (next + count)) (lines_from es 0 next ++ news)
-    (len ∙ sym (length-append (lines_from es 0 next) news ∙ omega (arith, old, length-replicate count (new_line {F} {K} parent))))
+    (len ∙ sym (length-append (lines_from es 0 next) news ∙ omega (arith, old, length-replicate count (new_line {F = F} {K = K} parent))))
     (λ i lt. let lt' : i < next + count = omega (arith, lt, len) in
     lines_at all 0 (next + count) i i no_line lt' (omega arith)
     ∙ ⊎_elim
     (λ (below : i < next). joined_below es more next (next + count) i rm below
     ∙ sym (get_or_append_left (lines_from es 0 next) news no_line i (omega (arith, below, old)) ∙ lines_at es 0 next i i no_line below (omega arith)))
     (λ (above : next ≤ i). joined_above es more 0 next i r above
-    ∙ new_at {F} {K} parent next count (i - next) i (omega (arith, above, lt')) (omega (arith, above))
+    ∙ new_at {F = F} {K = K} parent next count (i - next) i (omega (arith, above, lt')) (omega (arith, above))
     ∙ sym (get_or-append_right (lines_from es 0 next) news next i no_line old above ∙ get_or-replicate count (i - next) (new_line parent) no_line (omega (arith, above, lt'))))
     (cases_lt i next))
 
@@ -109,7 +109,7 @@ pub ordered_joined : {F K : Type 0} (ls : List (Line F K)) (count n : ℕ) → n
 ordered_joined {F} {K} ls count n lt ordered =
     let news : List (Line F K) = replicate count (new_line (Some n)) in
     let all : List (Line F K) = ls ++ news in
-    let len : length all ≡ length ls + count = length-append ls news ∙ ap (λ k. length ls + k) (length-replicate count (new_line {F} {K} (Some n))) in
+    let len : length all ≡ length ls + count = length-append ls news ∙ ap (λ k. length ls + k) (length-replicate count (new_line {F = F} {K = K} (Some n))) in
     let old : (m : ℕ) → m < length ls → line_at all m ≡ line_at ls m = λ m below. get_or_append_left ls news no_line m below in
     let new : (m : ℕ) → length ls ≤ m → m < length all → line_at all m ≡ new_line (Some n) =
     λ m above below. get_or-append_right ls news (length ls) m no_line refl above ∙ get_or-replicate count (m - length ls) (new_line (Some n)) no_line (omega (arith, above, below, len)) in
@@ -133,7 +133,8 @@ ordered_joined {F} {K} ls count n lt ordered =
           (λ (below : m < length ls). subst (λ (x : Line F K). IfSome x.parent (λ p. p < m)) (sym (old m below)) (ordered.parents m))
           (λ (above : length ls ≤ m).
           ⊎_elim
-          (λ (below : m < length all). subst (λ (x : Line F K). IfSome x.parent (λ p. p < m)) (sym (new m above below)) (omega (arith, above, lt)))
+          (λ (below : m < length all). let low : n < m = omega (arith, above, lt) in
+          subst (λ (x : Line F K). IfSome x.parent (λ p. p < m)) (sym (new m above below)) low)
           (λ (beyond : length all ≤ m). subst (λ (x : Line F K). IfSome x.parent (λ p. p < m)) (sym (past m beyond)) tt)
           (cases_lt m (length all)))
           (cases_lt m (length ls));

@@ -18,7 +18,7 @@ pub read : {F K : Type 0} (rows : List (Row F K)) (ls : List (Line F K)) (next n
     → lines_from (entries rows) 0 next ≡ ls → IsRowOf (entries rows) n k → x ≡ get_or rows k x → line_at ls n ≡ (entry x).line
 read {F} {K} rows ls next n k x sound view row is =
     ap (λ (l : List (Line F K)). line_at l n) (sym view) ∙ line_is (entries rows) next n sound.rises ∙ row.line (entry x)
-    ∙ ap (λ (e : Entry F K). e.line) (entry_at rows k x (entry x) (omega (arith, row.within, length-map rows (entry {F} {K}))) is)
+    ∙ ap (λ (e : Entry F K). e.line) (entry_at rows k x (entry x) (omega (arith, row.within, length-map rows (entry {F = F} {K = K}))) is)
 
 -- where it has none
 pub gone : {F K : Type 0} (es : List (Entry F K)) (ls : List (Line F K)) (next n : ℕ) → IsSound es next
@@ -39,7 +39,7 @@ lives {F} {K} es ls next n k sound view row =
 
 -- its row is one of the rows
 pub within_rows : {F K : Type 0} (rows : List (Row F K)) (n k : ℕ) → IsRowOf (entries rows) n k → k < length rows
-within_rows {F} {K} rows n k row = omega (arith, row.within, length-map rows (entry {F} {K}))
+within_rows {F} {K} rows n k row = omega (arith, row.within, length-map rows (entry {F = F} {K = K}))
 
 -- what changes nothing of a strand that is not there
 pub unchanged : {F K : Type 0} (ls : List (Line F K)) (n : ℕ) (f : Line F K → Line F K) → line_at ls n ≡ no_line → f no_line ≡ no_line → ls ≡ set ls n (f (line_at ls n))
@@ -67,7 +67,7 @@ grown {F} {K} es next n count sound live =
     let below : n < next = below_next es next n sound live in
     record {
       rises = subst (λ ns. Rises 0 ns (next + count)) (sym numbered)
-          (rises_joined (numbers es) (numbers more) 0 next (next + count) sound.rises (new_rises {F} {K} (Some n) next count));
+          (rises_joined (numbers es) (numbers more) 0 next (next + count) sound.rises (new_rises F K (Some n) next count));
       ordered = subst (λ (l : List (Line F K)). IsOrdered l) (sym (lines_joined es next count (Some n) sound.rises))
           (ordered_joined (lines_from es 0 next) count n (omega (arith, below, length_lines es 0 next)) sound.ordered);
     }
@@ -76,7 +76,7 @@ pub grown_line : {F K : Type 0} (es : List (Entry F K)) (next n count : ℕ) →
     → (line_of (es ++ new_entries (Some n) next count) n).is_live ≡ true
 grown_line {F} {K} es next n count sound live =
     ap (λ (l : Line F K). l.is_live) (joined_below es (new_entries (Some n) next count) next (next + count) n
-    (new_rises {F} {K} (Some n) next count) (below_next es next n sound live)) ∙ live
+    (new_rises F K (Some n) next count) (below_next es next n sound live)) ∙ live
 
 -- a strand with new members, which are put after all others
 pub forks : {F K : Type 0} (es fs : List (Entry F K)) (ls : List (Line F K)) (next n count : ℕ) → IsSound es next → (line_of es n).is_live ≡ true

@@ -7,13 +7,13 @@ use Rattle.frame_arena.specs.Entries.{Entry, entry, entries, numbers, is_used}
 use Rattle.frame_arena.specs.declared.row.Row.{Row}
 
 pub length_numbers : {F K : Type 0} (rows : List (Row F K)) → length (numbers (entries rows)) ≡ length rows
-length_numbers {F} {K} rows = length-map (entries rows) (λ (e : Entry F K). e.number) ∙ length-map rows (entry {F} {K})
+length_numbers {F} {K} rows = length-map (entries rows) (λ (e : Entry F K). e.number) ∙ length-map rows (entry {F = F} {K = K})
 
 -- the number of the row at a place
 pub number_at : {F K : Type 0} (rows : List (Row F K)) (k : ℕ) (x : Row F K) → k < length rows → x ≡ get_or rows k x
     → get_or (numbers (entries rows)) k 0 ≡ x.number
 number_at {F} {K} rows k x lt is =
-    get_or-map (λ (e : Entry F K). e.number) (entries rows) k (entry x) 0 (omega (arith, length-map rows (entry {F} {K})))
+    get_or-map (λ (e : Entry F K). e.number) (entries rows) k (entry x) 0 (omega (arith, length-map rows (entry {F = F} {K = K})))
     ∙ ap (λ (e : Entry F K). e.number) (get_or-map entry rows k x (entry x) lt)
     ∙ ap (λ (r : Row F K). r.number) (sym is)
 
@@ -23,7 +23,7 @@ pub entry_at : {F K : Type 0} (rows : List (Row F K)) (k : ℕ) (x : Row F K) (d
 entry_at {F} {K} rows k x d lt is = get_or-map entry rows k x d lt ∙ ap entry (sym is)
 
 -- the rows of strands that are there
-pub filtered : {F K : Type 0} (rows : List (Row F K)) → entries (filter (λ r. r.is_live) rows) ≡ filter is_used (entries rows)
+pub filtered : {F K : Type 0} (rows : List (Row F K)) → entries (filter (λ (r : Row F K). r.is_live) rows) ≡ filter is_used (entries rows)
 filtered [] = refl
 filtered {F} {K} (r ∷ rows) =
     ⊎_elim
@@ -39,4 +39,4 @@ filtered {F} {K} (r ∷ rows) =
 pub taken_back : {F K : Type 0} (rows now : List (Row F K)) (more : List (Entry F K)) (n : ℕ) → length rows ≡ n → entries now ≡ entries rows ++ more
     → entries (take n now) ≡ entries rows
 taken_back {F} {K} rows now more n len is =
-    sym (take-map entry n now) ∙ ap (λ l. take n l) is ∙ take_at (entries rows) more n (length-map rows (entry {F} {K}) ∙ len)
+    sym (take-map entry n now) ∙ ap (λ l. take n l) is ∙ take_at (entries rows) more n (length-map rows (entry {F = F} {K = K}) ∙ len)

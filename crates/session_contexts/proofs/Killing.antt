@@ -7,7 +7,6 @@ use Rattle.session_calculus.specs.Start.{Begun, begun, around, then_rest, normal
 use Rattle.session_calculus.specs.Kill.{kill}
 use Rattle.session_contexts.specs.Contexts.{Layer, rests, scoped, asked, failed, kept, around_of, plug}
 use Rattle.session_contexts.specs.Walks.{killed_in, killed_within}
-use Rattle.session_contexts.specs.Laws.{KillsGoInward}
 
 killed_live : (f : Fault) (q : ℕ) (h : Table) (t : Term) → kill f (in_scope q t h live) ≡ killed_in (scoped q h live) f t (kill f t)
 killed_live f q h done = refl
@@ -102,6 +101,6 @@ killed_layer (failed m g) f t = refl
 killed_layer kept f t = killed_kept f t
 
 -- in layers
-pub kills_inward : KillsGoInward
+pub kills_inward : (ls : List Layer) (f : Fault) (t : Term) → kill f (plug ls t) ≡ killed_within ls f t (kill f t)
 kills_inward [] f t = refl
 kills_inward (l ∷ ls) f t = killed_layer l f (plug ls t) ∙ ap (killed_in l f (plug ls t)) (kills_inward ls f t)

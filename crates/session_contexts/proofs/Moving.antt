@@ -10,7 +10,6 @@ use Rattle.session_calculus.specs.After.{moves}
 use Rattle.session_contexts.specs.Contexts.{Layer, rests, scoped, asked, failed, kept, around_of, plug, is_open, are_open}
 use Rattle.session_contexts.specs.Tidy.{tidy, tidied}
 use Rattle.session_contexts.specs.Walks.{seen_in, seen_within, moved_in, moved_within}
-use Rattle.session_contexts.specs.Laws.{MovesGoInside}
 use Rattle.session_contexts.proofs.Tidying.{tidy-prot_of, tidy-twice, tidied-seq_of, tidied-prot_of}
 use Rattle.session_contexts.proofs.Standing.{in_layers}
 
@@ -107,7 +106,8 @@ moves_layer (failed m f) s k t o out = absurd (false≢true o)
 moves_layer kept s k t o out = moves-kept s k t
 
 -- in layers
-pub moves_inside : MovesGoInside
+pub moves_inside : (ls : List Layer) (s : Seen) (k : ℕ) (t : Term) → are_open ls ≡ true → (t ≡ done → ⊥)
+    → option_map tidied (moves s k (plug ls t)) ≡ option_map (λ m. tidied (moved_within ls s m)) (moves (seen_within ls s) k t)
 moves_inside [] s k t o out = refl
 moves_inside (l ∷ ls) s k t o out =
     let both = and_parts (is_open l) (are_open ls) o in

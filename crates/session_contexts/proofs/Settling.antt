@@ -8,7 +8,6 @@ use Rattle.session_contexts.specs.Contexts.{Layer, rests, scoped, asked, failed,
 use Rattle.session_contexts.specs.Tidy.{tidy, tidy_members}
 use Rattle.session_contexts.specs.Members.{IsNormal, AreNormal, with_member, HasMember, OthersAreNormal}
 use Rattle.session_contexts.specs.Walks.{settled}
-use Rattle.session_contexts.specs.Laws.{NormalFormsStayTidy, NormalGoesOutward, MembersSettleAlone}
 use Rattle.session_contexts.proofs.Tidying.{prot-twice}
 
 -- what is kept comes to normal form inside
@@ -41,7 +40,7 @@ nothing_after (prot zt) n = refl
 
 mutual
   -- a form and the same form said tidily have one normal form
-  pub tidy_normal : NormalFormsStayTidy
+  pub tidy_normal : (t : Term) (n : ℕ) → normal (tidy t) n ≡ normal t n
   tidy_normal done n = refl
   tidy_normal (place p) n = refl
   tidy_normal (thrown f) n = refl
@@ -62,7 +61,7 @@ mutual
       ∙ ap (around (strand k (normal t n).form)) (tidy_members_normal ts (normal t n).next)
 
 -- the normal form of a form in layers
-pub normal_outward : NormalGoesOutward
+pub normal_outward : (ls : List Layer) (t : Term) (n : ℕ) → normal (plug ls t) n ≡ settled ls (normal t n)
 normal_outward [] t n = refl
 normal_outward (rests no_procs ∷ ls) t n = normal_outward ls t n
 normal_outward (rests (proc p ps) ∷ ls) t n = ap (λ b. then_rest b.form (proc p ps) b.next) (normal_outward ls t n)
@@ -84,7 +83,8 @@ one_member false j u ts k t n has others later =
     ∙ ap (around (strand j u)) (later n has others.1)
 
 -- one member comes to normal form alone
-pub settles_alone : MembersSettleAlone
+pub settles_alone : (ts : Strands) (k : ℕ) (t : Term) (n : ℕ) → HasMember k ts → OthersAreNormal k ts
+    → normal_members (with_member k t ts) n ≡ around (λ v. with_member k v ts) (normal t n)
 settles_alone no_strands k t n has others = absurd has
 settles_alone (strand j u ts) k t n has others =
     one_member (stands_in k j u) j u ts k t n has others (λ m h o. settles_alone ts k t m h o)

@@ -6,14 +6,12 @@ use Rattle.behaviour_tree.specs.Data.{Proc, PathTree, Procs, no_procs, proc}
 use Rattle.session_calculus.specs.Tables.{Table, entry}
 use Rattle.session_calculus.specs.Terms.{Fault, Term, Strands, done, place, thrown, seq, par, in_scope, exec, fail, wait, dead_wait, prot, no_strands, strand, State, live, caught, term, last, zombie, seq_of, prot_of, scope_of, is_within, stands_in}
 use Rattle.session_calculus.specs.Start.{Begun, begun, around, then_rest, normal, normal_members}
-use Rattle.session_calculus.specs.Kill.{kill}
 use Rattle.session_calculus.specs.Ready.{ready_in}
 use Rattle.session_calculus.specs.Faults.{fault_in}
-use Rattle.session_calculus.specs.Moves.{Seen}
+use Rattle.session_calculus.specs.Moves.{Seen, inside}
 use Rattle.session_calculus.specs.Reached.{Passed, scopes_around}
 use Rattle.session_contexts.specs.Contexts.{Layer, rests, scoped, asked, failed, kept, around_of, plug, is_open, are_open}
-use Rattle.session_contexts.specs.Walks.{seen_within, looked_within, killed_within, passed_within}
-use Rattle.session_contexts.specs.Laws.{StrandsStandInside, FaultsAreSeenInside, ReadyAreSeenInside, KillsGoInward, ScopesStandOutward}
+use Rattle.session_contexts.specs.Walks.{seen_within, looked_within, passed_within}
 
 -- what is kept holds the same strands
 kept-within : (n : ℕ) (t : Term) → is_within n (prot_of t) ≡ is_within n t
@@ -30,7 +28,7 @@ kept-within n (dead_wait zc za zb zl) = refl
 kept-within n (prot zt) = refl
 
 -- the strands in a form in layers
-pub strands_inside : StrandsStandInside
+pub strands_inside : (ls : List Layer) (t : Term) (n : ℕ) → is_within n (plug ls t) ≡ is_within n t
 strands_inside [] t n = refl
 strands_inside (rests no_procs ∷ ls) t n = strands_inside ls t n
 strands_inside (rests (proc p ps) ∷ ls) t n = strands_inside ls t n
@@ -54,11 +52,12 @@ kept-fault s k (dead_wait zc za zb zl) = refl
 kept-fault s k (prot zt) = refl
 
 -- the fault of a form in layers
-pub faults_inside : FaultsAreSeenInside
+pub faults_inside : (ls : List Layer) (s : Seen) (k : ℕ) (t : Term) → are_open ls ≡ true
+    → fault_in s k (plug ls t) ≡ fault_in (seen_within ls s) k t
 faults_inside [] s k t o = refl
 faults_inside (rests no_procs ∷ ls) s k t o = faults_inside ls s k t o
 faults_inside (rests (proc p ps) ∷ ls) s k t o = faults_inside ls s k t o
-faults_inside (scoped q h u ∷ ls) s k t o = faults_inside ls _ k t o
+faults_inside (scoped q h u ∷ ls) s k t o = faults_inside ls (inside s q h) k t o
 faults_inside (asked m o' y ∷ ls) s k t o = faults_inside ls s k t o
 faults_inside (failed m f ∷ ls) s k t o = absurd (false≢true o)
 faults_inside (kept ∷ ls) s k t o = kept-fault s k (plug ls t) ∙ faults_inside ls s k t o
@@ -78,7 +77,8 @@ kept-scopes n s (dead_wait zc za zb zl) = refl
 kept-scopes n s (prot zt) = refl
 
 -- the scopes around a place in a form in layers
-pub scopes_outward : ScopesStandOutward
+pub scopes_outward : (ls : List Layer) (n s : ℕ) (t : Term) → are_open ls ≡ true
+    → scopes_around n s (plug ls t) ≡ scopes_around n s t ++ passed_within ls s t
 scopes_outward [] n s t o = sym (append-nil (scopes_around n s t))
 scopes_outward (rests no_procs ∷ ls) n s t o = scopes_outward ls n s t o
 scopes_outward (rests (proc p ps) ∷ ls) n s t o = scopes_outward ls n s t o
@@ -145,7 +145,8 @@ scope-ready q h n r g u (dead_wait zc za zb zl) out = refl
 scope-ready q h n r g u (prot zt) out = refl
 
 -- the strands that go first in a form in layers
-pub ready_inside : ReadyAreSeenInside
+pub ready_inside : (ls : List Layer) (q : ℕ) (h : Table) (n : ℕ) (t : Term) → (t ≡ done → ⊥)
+    → ready_in q h n (plug ls t) ≡ looked_within ls (ready_in q h n t)
 ready_inside [] q h n t out = refl
 ready_inside (rests no_procs ∷ ls) q h n t out = ready_inside ls q h n t out
 ready_inside (rests (proc p ps) ∷ ls) q h n t out = ready_inside ls q h n t out

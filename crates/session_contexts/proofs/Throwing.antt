@@ -10,7 +10,6 @@ use Rattle.session_calculus.specs.Throw.{Carried, up, caught_at, ended_at, block
 use Rattle.session_contexts.specs.Contexts.{Layer, rests, scoped, asked, failed, kept, around_of, plug, is_open, are_open}
 use Rattle.session_contexts.specs.Tidy.{tidy, tidied_fault}
 use Rattle.session_contexts.specs.Walks.{thrown_in, thrown_within}
-use Rattle.session_contexts.specs.Laws.{ThrowsGoOutward}
 use Rattle.session_contexts.proofs.Tidying.{tidy-prot_of, tidy-twice, tidied-seq_of, tidied-prot_of}
 
 -- a fault, by what it is tidily, through what stands around
@@ -107,7 +106,8 @@ thrown_layer (failed m g) n f s t o = absurd (false≢true o)
 thrown_layer kept n f s t o = throw-kept n f s t
 
 -- out of layers
-pub throws_outward : ThrowsGoOutward
+pub throws_outward : (ls : List Layer) (n : ℕ) (f : Fault) (s : ℕ) (t : Term) → are_open ls ≡ true
+    → tidied_fault (throw n f s (plug ls t)) ≡ tidied_fault (thrown_within ls f s t (throw n f s t))
 throws_outward [] n f s t o = refl
 throws_outward (l ∷ ls) n f s t o =
     let both = and_parts (is_open l) (are_open ls) o in
