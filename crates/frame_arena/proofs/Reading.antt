@@ -37,10 +37,6 @@ pub lives : {F K : Type 0} (es : List (Entry F K)) (ls : List (Line F K)) (next 
 lives {F} {K} es ls next n k sound view row =
     ap (λ (l : Line F K). l.is_live) (ap (λ (l : List (Line F K)). line_at l n) (sym view) ∙ line_is es next n sound.rises) ∙ row.live
 
--- its row is one of the rows
-pub within_rows : {F K : Type 0} (rows : List (Row F K)) (n k : ℕ) → IsRowOf (entries rows) n k → k < length rows
-within_rows {F} {K} rows n k row = omega (arith, row.within, length-map rows (entry {F = F} {K = K}))
-
 -- what changes nothing of a strand that is not there
 pub unchanged : {F K : Type 0} (ls : List (Line F K)) (n : ℕ) (f : Line F K → Line F K) → line_at ls n ≡ no_line → f no_line ≡ no_line → ls ≡ set ls n (f (line_at ls n))
 unchanged ls n f none same = sym (stays ls n (f (line_at ls n)) (none ∙ sym same ∙ ap f (sym none)))
@@ -133,3 +129,25 @@ dead_between {F} {K} es next from start k n d r at dead above below =
     absurd (omega (arith, same, below here, number_of es k d here, rises_order (numbers es) 0 next k i r past lt')))
     (cases_lt i k))
     (cases_lt i start))
+
+-- ---- the same where the rows are read as a slice
+
+pub rising_in : {F K : Type 0} (rows xs : List (Row F K)) (next : ℕ) → IsSound (entries rows) next → xs ≡ rows → IsRising (numbers (entries xs))
+rising_in {F} {K} rows xs next sound is = subst (λ (l : List (Row F K)). IsRising (numbers (entries l))) (sym is) (next, sound.rises)
+
+pub live_in : {F K : Type 0} (rows xs : List (Row F K)) (ls : List (Line F K)) (next n : ℕ) → IsSound (entries rows) next
+    → lines_from (entries rows) 0 next ≡ ls → xs ≡ rows → is_live ls n ≡ true → (line_of (entries xs) n).is_live ≡ true
+live_in {F} {K} rows xs ls next n sound view is live =
+    ap (λ (l : List (Row F K)). (line_of (entries l) n).is_live) is ∙ there (entries rows) ls next n sound view live
+
+pub row_in : {F K : Type 0} (rows xs : List (Row F K)) (n k : ℕ) → xs ≡ rows → IsRowOf (entries xs) n k → IsRowOf (entries rows) n k
+row_in {F} {K} rows xs n k is row = subst (λ (l : List (Row F K)). IsRowOf (entries l) n k) is row
+
+pub read_in : {F K : Type 0} (rows xs : List (Row F K)) (ls : List (Line F K)) (next n k : ℕ) (x : Row F K) → IsSound (entries rows) next
+    → lines_from (entries rows) 0 next ≡ ls → xs ≡ rows → IsRowOf (entries xs) n k → x ≡ get_or rows k x → line_at ls n ≡ (entry x).line
+read_in rows xs ls next n k x sound view is row at = read rows ls next n k x sound view (row_in rows xs n k is row) at
+
+pub none_in : {F K : Type 0} (rows xs : List (Row F K)) (ls : List (Line F K)) (next n : ℕ) → IsSound (entries rows) next
+    → lines_from (entries rows) 0 next ≡ ls → xs ≡ rows → line_of (entries xs) n ≡ no_line → line_at ls n ≡ no_line
+none_in {F} {K} rows xs ls next n sound view is none =
+    gone (entries rows) ls next n sound view (ap (λ (l : List (Row F K)). line_of (entries l) n) (sym is) ∙ none)

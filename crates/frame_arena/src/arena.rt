@@ -1,4 +1,5 @@
-ghost use Rattle.std.specs.Prelude.{◌≡◌, ◌∷◌, ◌≤◌, true, false, [], IfOk, MatchOption, None, length, option_map, ℕ};
+ghost use Rattle.std.specs.Prelude.{◌≡◌, ◌∷◌, ◌≤◌, true, false, [], IfOk, IfSome, MatchOption, None, length, option_map, ℕ};
+ghost use Rattle.frame_arena.specs.Entries.{entry};
 ghost use Rattle.frame_arena.specs.Lines as spec;
 
 mod forks;
@@ -59,7 +60,10 @@ impl<F: Copy, K: Drop> Arena<F, K> {
     pub fn is_live(&self, strand: StrandNo) -> bool
         ensures { result ≡ spec.is_live self.now strand.number }
     {
-        row_of(&self.rows, strand.number).is_some()
+        match self.row(strand) {
+            Some(_) => true,
+            None => false,
+        }
     }
 
     /// The first strand that is there, from a number on.
@@ -80,8 +84,8 @@ impl<F: Copy, K: Drop> Arena<F, K> {
     pub fn parent(&self, strand: StrandNo) -> Option<StrandNo>
         ensures { option_map (λ s. s.number) result ≡ (spec.line_at self.now strand.number).parent }
     {
-        match row_of(&self.rows, strand.number) {
-            Some(place) => match self.rows[place].parent {
+        match self.row(strand) {
+            Some(row) => match row.parent {
                 Some(number) => Some(StrandNo { number }),
                 None => None,
             },
@@ -94,12 +98,10 @@ impl<F: Copy, K: Drop> Arena<F, K> {
         ensures first { result.first.number ≡ (spec.line_at self.now strand.number).first }
         ensures count { result.count ≡ (spec.line_at self.now strand.number).count }
     {
-        match row_of(&self.rows, strand.number) {
-            Some(place) => Members {
-                first: StrandNo {
-                    number: self.rows[place].first,
-                },
-                count: self.rows[place].count,
+        match self.row(strand) {
+            Some(row) => Members {
+                first: StrandNo { number: row.first },
+                count: row.count,
             },
             None => Members {
                 first: StrandNo { number: 0 },
@@ -112,8 +114,8 @@ impl<F: Copy, K: Drop> Arena<F, K> {
     pub fn undone(&self, strand: StrandNo) -> u64
         ensures { result ≡ (spec.line_at self.now strand.number).undone }
     {
-        match row_of(&self.rows, strand.number) {
-            Some(place) => self.rows[place].undone,
+        match self.row(strand) {
+            Some(row) => row.undone,
             None => 0,
         }
     }
@@ -127,10 +129,23 @@ impl<F: Copy, K: Drop> Arena<F, K> {
         self.rows[place].undone = undone;
     }
 
-    /// Members have numbers after that of their strand.
+    /// The members of each strand were given numbers after its own.
     pub fn is_ordered(&self)
         ensures { spec.IsOrdered self.now }
     {
         let _ = &self.rows;
+    }
+
+    /// The row of a strand that is there.
+    fn row(&self, strand: StrandNo) -> Option<&Row<F, K>>
+        ensures row { MatchOption result
+            (spec.line_at self.now strand.number ≡ spec.no_line)
+            (λ r. spec.line_at self.now strand.number ≡ (entry r.now).line) }
+        ensures live { IfSome result (λ r. r.now.is_live ≡ true) }
+    {
+        match row_of(&self.rows, strand.number) {
+            Some(place) => Some(&self.rows[place]),
+            None => None,
+        }
     }
 }

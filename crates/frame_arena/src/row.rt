@@ -1,4 +1,4 @@
-ghost use Rattle.std.specs.Prelude.{◌≡◌, ◌+◌, ◌<◌, ◌≤◌, ◌++◌, ◌^◌, ℕ, Some, true, if◌then◌else◌, is_ok, filter, MatchOption};
+ghost use Rattle.std.specs.Prelude.{◌≡◌, ◌+◌, ◌<◌, ◌≤◌, ◌++◌, ◌^◌, ℕ, Some, true, if◌then◌else◌, is_ok, filter, IfSome, MatchOption, length};
 ghost use Rattle.frame_arena.specs.Entries.{entries, entry, is_used, line_of, new_entries, new_entry, numbers};
 ghost use Rattle.frame_arena.specs.Lines.{no_line};
 ghost use Rattle.frame_arena.specs.Places.{IsNextRow, IsPlace, IsRising, IsRowOf};
@@ -55,7 +55,8 @@ pub fn place_of<F: Copy, K: Drop>(rows: &[Row<F, K>], number: u64) -> usize
 /// The row of a strand, if it is there.
 pub fn row_of<F: Copy, K: Drop>(rows: &[Row<F, K>], number: u64) -> Option<usize>
     requires { IsRising (numbers (entries rows.now)) }
-    ensures { MatchOption result (line_of (entries rows.now) number ≡ no_line) (IsRowOf (entries rows.now) number) }
+    ensures row { MatchOption result (line_of (entries rows.now) number ≡ no_line) (IsRowOf (entries rows.now) number) }
+    ensures within { IfSome result (λ k. k < length rows.now) }
 {
     let place = place_of(rows, number);
     if place < rows.len() && rows[place].number == number && rows[place].is_live {
@@ -68,7 +69,8 @@ pub fn row_of<F: Copy, K: Drop>(rows: &[Row<F, K>], number: u64) -> Option<usize
 pub fn live_row<F: Copy, K: Drop>(rows: &[Row<F, K>], number: u64) -> usize
     requires rising { IsRising (numbers (entries rows.now)) }
     requires live { (line_of (entries rows.now) number).is_live ≡ true }
-    ensures { IsRowOf (entries rows.now) number result }
+    ensures row { IsRowOf (entries rows.now) number result }
+    ensures within { result < length rows.now }
 {
     place_of(rows, number)
 }
@@ -76,9 +78,10 @@ pub fn live_row<F: Copy, K: Drop>(rows: &[Row<F, K>], number: u64) -> usize
 /// The row of the first strand that is there, from a number on.
 pub fn next_row<F: Copy, K: Drop>(rows: &[Row<F, K>], from: u64) -> Option<usize>
     requires { IsRising (numbers (entries rows.now)) }
-    ensures { MatchOption result
+    ensures row { MatchOption result
         ((n : ℕ) → from ≤ n → line_of (entries rows.now) n ≡ no_line)
         (IsNextRow (entries rows.now) from) }
+    ensures within { IfSome result (λ k. k < length rows.now) }
 {
     let mut place = place_of(rows, from);
     while place < rows.len() {

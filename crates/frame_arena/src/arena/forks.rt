@@ -34,12 +34,13 @@ impl<F: Copy, K: Drop> Arena<F, K> {
     pub fn disband(&mut self, strand: StrandNo)
         ensures { self.new ≡ spec.with_members self.old strand.number 0 0 }
     {
-        if let Some(place) = row_of(&self.rows, strand.number) {
-            let row = &mut self.rows[place];
-            row.first = 0;
-            row.count = 0;
-            row.undone = 0;
-        }
+        let Some(place) = row_of(&self.rows, strand.number) else {
+            return;
+        };
+        let row = &mut self.rows[place];
+        row.first = 0;
+        row.count = 0;
+        row.undone = 0;
     }
 
     /// Takes a strand away, with its frames and what it keeps.
@@ -54,13 +55,14 @@ impl<F: Copy, K: Drop> Arena<F, K> {
     fn give_up(&mut self, strand: StrandNo)
         ensures { self.new ≡ spec.without self.old strand.number }
     {
-        if let Some(place) = row_of(&self.rows, strand.number) {
-            let row = &mut self.rows[place];
-            row.is_live = false;
-            row.frames.clear();
-            row.kept.clear();
-            self.freed = self.freed.saturating_add(1);
-        }
+        let Some(place) = row_of(&self.rows, strand.number) else {
+            return;
+        };
+        let row = &mut self.rows[place];
+        row.is_live = false;
+        row.frames.clear();
+        row.kept.clear();
+        self.freed = self.freed.saturating_add(1);
     }
 
     /// Takes out the rows of strands that are not there any more, where they may be more than half of all.

@@ -11,8 +11,8 @@ impl<F: Copy, K: Drop> Arena<F, K> {
     pub fn depth(&self, strand: StrandNo) -> usize
         ensures { result ≡ length (spec.frames_of self.now strand.number) }
     {
-        match row_of(&self.rows, strand.number) {
-            Some(place) => self.rows[place].frames.len(),
+        match self.row(strand) {
+            Some(row) => row.frames.len(),
             None => 0,
         }
     }
@@ -21,8 +21,8 @@ impl<F: Copy, K: Drop> Arena<F, K> {
     pub fn frame(&self, strand: StrandNo, place: usize) -> Option<F>
         ensures { result ≡ slice_get (spec.frames_of self.now strand.number) place }
     {
-        match row_of(&self.rows, strand.number) {
-            Some(row) => self.rows[row].frames.get(place).copied(),
+        match self.row(strand) {
+            Some(row) => row.frames.get(place).copied(),
             None => None,
         }
     }
@@ -31,8 +31,8 @@ impl<F: Copy, K: Drop> Arena<F, K> {
     pub fn top(&self, strand: StrandNo) -> Option<F>
         ensures { let fs = spec.frames_of self.now strand.number in result ≡ slice_get fs (length fs - 1) }
     {
-        match row_of(&self.rows, strand.number) {
-            Some(row) => self.rows[row].frames.last().copied(),
+        match self.row(strand) {
+            Some(row) => row.frames.last().copied(),
             None => None,
         }
     }
@@ -54,9 +54,10 @@ impl<F: Copy, K: Drop> Arena<F, K> {
         requires { place < length (spec.frames_of self.old strand.number) }
         ensures { self.new ≡ spec.with_frames self.old strand.number (slice_set (spec.frames_of self.old strand.number) place frame) }
     {
-        if let Some(row) = row_of(&self.rows, strand.number) {
-            self.rows[row].frames[place] = frame;
-        }
+        let Some(row) = row_of(&self.rows, strand.number) else {
+            return;
+        };
+        self.rows[row].frames[place] = frame;
     }
 
     /// Takes the frame on top.
@@ -75,8 +76,9 @@ impl<F: Copy, K: Drop> Arena<F, K> {
     pub fn cut(&mut self, strand: StrandNo, depth: usize)
         ensures { self.new ≡ spec.with_frames self.old strand.number (take depth (spec.frames_of self.old strand.number)) }
     {
-        if let Some(row) = row_of(&self.rows, strand.number) {
-            self.rows[row].frames.truncate(depth);
-        }
+        let Some(row) = row_of(&self.rows, strand.number) else {
+            return;
+        };
+        self.rows[row].frames.truncate(depth);
     }
 }

@@ -12,8 +12,8 @@ impl<F: Copy, K: Drop> Arena<F, K> {
     pub fn kept(&self, strand: StrandNo) -> &[K]
         ensures { result.now ≡ spec.kept_of self.now strand.number }
     {
-        match row_of(&self.rows, strand.number) {
-            Some(row) => self.rows[row].kept.as_slice(),
+        match self.row(strand) {
+            Some(row) => row.kept.as_slice(),
             None => &[],
         }
     }
