@@ -1,4 +1,5 @@
 pub mod Changes
+pub mod Examples
 pub mod Found
 pub mod Lines
 pub mod Reading

@@ -1,3 +1,4 @@
+pub mod Examples
 pub mod Killing
 pub mod Moving
 pub mod Settling
