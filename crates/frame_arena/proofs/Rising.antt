@@ -40,9 +40,9 @@ rises_joined [] ms from next high r s = rises_sooner ms from next high r s
 rises_joined (n ∷ ns) ms from next high r s = (r.0, rises_joined ns ms (suc n) next high r.1 s)
 
 -- the half in which a number is sought
-pub went_up : (ns : List ℕ) (from next n low middle : ℕ) → Rises from ns next → middle < length ns → get_or ns middle 0 < n
+pub went_up : (ns : List ℕ) (from next n middle : ℕ) → Rises from ns next → middle < length ns → get_or ns middle 0 < n
     → (i : ℕ) → i < middle + 1 → get_or ns i 0 < n
-went_up ns from next n low middle r lt less i below = omega (arith, less, rises_order ns from next i middle r (omega (arith, below)) lt)
+went_up ns from next n middle r lt less i below = omega (arith, less, rises_order ns from next i middle r (omega (arith, below)) lt)
 
 pub went_down : (ns : List ℕ) (from next n middle : ℕ) → Rises from ns next → n ≤ get_or ns middle 0
     → (i : ℕ) → middle ≤ i → i < length ns → n ≤ get_or ns i 0
