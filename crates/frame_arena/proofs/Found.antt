@@ -126,17 +126,22 @@ none_above (e ∷ es) from next n r le =
 pub new_rises : (F K : Type 0) (parent : Option ℕ) (from count : ℕ) → Rises from (numbers (new_entries {F = F} {K = K} parent from count)) (from + count)
 new_rises F K parent from zero = omega arith
 new_rises F K parent from (suc count) =
-    (omega arith, subst (λ m. Rises (suc from) (numbers (new_entries {F = F} {K = K} parent (suc from) count)) m) (omega arith) (new_rises F K parent (suc from) count))
+    let same : suc from + count ≡ from + suc count = omega arith in
+    (omega arith, subst (λ m. Rises (suc from) (numbers (new_entries {F = F} {K = K} parent (suc from) count)) m) same (new_rises F K parent (suc from) count))
 
 pub new_at : {F K : Type 0} (parent : Option ℕ) (from count i m : ℕ) → i < count → m ≡ from + i → line_of (new_entries {F = F} {K = K} parent from count) m ≡ new_line parent
 new_at parent from zero i m lt is = absurd (omega (arith, lt))
 new_at {F} {K} parent from (suc count) zero m lt is =
-    stops_here (new_entry parent from) (new_entries parent (suc from) count) m (omega (arith, is)) refl
+    let here : from ≡ m = omega (arith, is) in
+    stops_here (new_entry parent from) (new_entries parent (suc from) count) m here refl
 new_at {F} {K} parent from (suc count) (suc i) m lt is =
-    passed_over (new_entry parent from) (new_entries parent (suc from) count) m (λ same. absurd (omega (arith, same, is)))
+    passed_over (new_entry parent from) (new_entries parent (suc from) count) m (λ (same : from ≡ m). absurd (omega (arith, same, is)))
     ∙ new_at {F = F} {K = K} parent (suc from) count i m (omega (arith, lt)) (omega (arith, is))
 
 pub new_more : {F K : Type 0} (parent : Option ℕ) (from i m : ℕ) → m ≡ from + i
     → new_entries {F = F} {K = K} parent from (i + 1) ≡ new_entries parent from i ++ new_entry parent m ∷ []
-new_more {F} {K} parent from zero m is = ap (λ k. new_entry {F = F} {K = K} parent k ∷ []) (omega (arith, is))
-new_more {F} {K} parent from (suc i) m is = ap (λ es. new_entry {F = F} {K = K} parent from ∷ es) (new_more {F = F} {K = K} parent (suc from) i m (omega (arith, is)))
+new_more {F} {K} parent from zero m is =
+    let here : from ≡ m = omega (arith, is) in
+    ap (λ k. new_entry {F = F} {K = K} parent k ∷ []) here
+new_more {F} {K} parent from (suc i) m is = let later : m ≡ suc from + i = omega (arith, is) in
+    ap (λ es. new_entry {F = F} {K = K} parent from ∷ es) (new_more {F = F} {K = K} parent (suc from) i m later)

@@ -4,14 +4,14 @@ use Rattle.std.proofs.lemmas.Bool.{cases_lt, false≢true}
 use Rattle.std.proofs.lemmas.List.{length-map, map-append, get_or_default, set-get_or, get_or_append_left, set-append_left, length-append, length-replicate}
 use Rattle.frame_arena.specs.Line.{Line}
 use Rattle.frame_arena.specs.Lines.{no_line, new_line, line_at, is_live, with_frames, with_kept, with_members, without, forked, IsOrdered, IsNext}
-use Rattle.frame_arena.specs.Entries.{Entry, entry, entries, numbers, line_of, lines_from, new_entries}
+use Rattle.frame_arena.specs.Entries.{Entry, entry, entries, numbers, over, line_of, lines_from, new_entries}
 use Rattle.frame_arena.specs.Places.{Rises, IsRising, IsPlace, IsRowOf, IsNextRow, IsSound}
 use Rattle.frame_arena.specs.declared.row.Row.{Row}
 use Rattle.frame_arena.proofs.Rising.{rises_joined, rises_order}
 use Rattle.frame_arena.proofs.Found.{joined_below, none_there, new_rises, none_above}
 use Rattle.frame_arena.proofs.Lines.{length_lines, line_is, lines_joined, ordered_joined, stays}
 use Rattle.frame_arena.proofs.Rows.{entry_at}
-use Rattle.frame_arena.proofs.Changes.{Changed, length_of_numbers, number_of, row_at}
+use Rattle.frame_arena.proofs.Changes.{Changed, Keeps, keep_row, put_row, free_row, length_of_numbers, number_of, row_at}
 
 -- the strand of a number, where its row is read
 pub read : {F K : Type 0} (rows : List (Row F K)) (ls : List (Line F K)) (next n k : ℕ) (x : Row F K) → IsSound (entries rows) next
@@ -151,3 +151,58 @@ pub none_in : {F K : Type 0} (rows xs : List (Row F K)) (ls : List (Line F K)) (
     → lines_from (entries rows) 0 next ≡ ls → xs ≡ rows → line_of (entries xs) n ≡ no_line → line_at ls n ≡ no_line
 none_in {F} {K} rows xs ls next n sound view is none =
     gone (entries rows) ls next n sound view (ap (λ (l : List (Row F K)). line_of (entries l) n) (sym is) ∙ none)
+
+pub live_of : {F K : Type 0} (rows xs : List (Row F K)) (next n k : ℕ) (x : Row F K) → IsSound (entries rows) next → xs ≡ rows
+    → IsRowOf (entries xs) n k → x ≡ get_or rows k x → x.is_live ≡ true
+live_of {F} {K} rows xs next n k x sound is row at =
+    let mine = row_in rows xs n k is row in
+    let same : line_of (entries rows) n ≡ (entry x).line =
+    mine.line (entry x) ∙ ap (λ (e : Entry F K). e.line) (entry_at rows k x (entry x) (omega (arith, mine.within, length-map rows (entry {F = F} {K = K}))) at) in
+    ap (λ (l : Line F K). l.is_live) (sym same) ∙ mine.live
+
+-- rows of which one has changed, and the strands that contracts see then
+pub record IsChanged {F K : Type 0} (fs : List (Entry F K)) (ls : List (Line F K)) (next n : ℕ) (f : Line F K → Line F K) : Type 0 where
+  pub sound : IsSound fs next
+  pub lines : lines_from fs 0 next ≡ set ls n (f (line_at ls n))
+
+-- a row changed, but for what it says of the strand's place among others
+pub kept_change : {F K : Type 0} (rows xs : List (Row F K)) (ls : List (Line F K)) (next n k : ℕ) (x r : Row F K) (f : Line F K → Line F K)
+    → ((l : Line F K) → Keeps l (f l)) → IsSound (entries rows) next → lines_from (entries rows) 0 next ≡ ls → xs ≡ rows → IsRowOf (entries xs) n k
+    → x ≡ get_or rows k x → entry r ≡ over f (entry x) → IsChanged (entries (set rows k r)) ls next n f
+kept_change rows xs ls next n k x r f keeps sound view is row at now =
+    let changed = keep_row rows next n k x r f keeps sound (row_in rows xs n k is row) at now in
+    record { sound = changed.sound; lines = seen (entries rows) (entries (set rows k r)) ls next n f changed view }
+
+-- a row changed in its members
+pub members_change : {F K : Type 0} (rows xs : List (Row F K)) (ls : List (Line F K)) (next n k first count : ℕ) (x r : Row F K)
+    → (0 < count → (n < first) × (first + count ≤ next)) → IsSound (entries rows) next → lines_from (entries rows) 0 next ≡ ls → xs ≡ rows → IsRowOf (entries xs) n k
+    → x ≡ get_or rows k x → entry r ≡ over (λ l. record l { first = first; count = count; undone = count }) (entry x)
+    → IsChanged (entries (set rows k r)) ls next n (λ l. record l { first = first; count = count; undone = count })
+members_change {F} {K} rows xs ls next n k first count x r fits sound view is row at now =
+    let f : Line F K → Line F K = λ l. record l { first = first; count = count; undone = count } in
+    let changed = put_row rows next n k x r f sound (row_in rows xs n k is row) at now (λ l live. live) (λ l was some. fits some) (λ l. refl) in
+    record { sound = changed.sound; lines = seen (entries rows) (entries (set rows k r)) ls next n f changed view }
+
+-- a row that is not in use any more
+pub freed_change : {F K : Type 0} (rows xs : List (Row F K)) (ls : List (Line F K)) (next n k : ℕ) (x r : Row F K) → IsSound (entries rows) next
+    → lines_from (entries rows) 0 next ≡ ls → xs ≡ rows → IsRowOf (entries xs) n k → x ≡ get_or rows k x → r.number ≡ x.number → r.is_live ≡ false
+    → IsChanged (entries (set rows k r)) ls next n (λ l. no_line)
+freed_change {F} {K} rows xs ls next n k x r sound view is row at same dead =
+    let changed = free_row rows next n k x r sound (row_in rows xs n k is row) at same dead in
+    record { sound = changed.sound; lines = seen (entries rows) (entries (set rows k r)) ls next n (λ l. no_line) changed view }
+
+-- a row with other frames, made of those that it had
+pub frames_change : {F K : Type 0} (rows xs : List (Row F K)) (ls : List (Line F K)) (next n k : ℕ) (x r : Row F K) (g : List F → List F) → IsSound (entries rows) next
+    → lines_from (entries rows) 0 next ≡ ls → xs ≡ rows → IsRowOf (entries xs) n k → x ≡ get_or rows k x
+    → r.number ≡ x.number → r.is_live ≡ x.is_live → r.parent ≡ x.parent → r.first ≡ x.first → r.count ≡ x.count → r.undone ≡ x.undone → r.kept ≡ x.kept
+    → r.frames.items ≡ g x.frames.items → IsChanged (entries (set rows k r)) ls next n (λ l. record l { frames = g l.frames })
+frames_change {F} {K} rows xs ls next n k x r g sound view is row at same_number same_live same_parent same_first same_count same_undone same_kept now =
+    let f : Line F K → Line F K = λ l. record l { frames = g l.frames } in
+    let changed : entry r ≡ over f (entry x) = cc in
+    kept_change rows xs ls next n k x r f (λ l. record { live = refl; parent = refl; first = refl; count = refl }) sound view is row at changed
+
+-- a strand that is not there has no frames to change
+pub no_frames : {F K : Type 0} (ls : List (Line F K)) (n : ℕ) (g : List F → List F) → line_at ls n ≡ no_line → g [] ≡ [] → ls ≡ with_frames ls n (g (line_at ls n).frames)
+no_frames {F} {K} ls n g none empty =
+    unchanged ls n (λ (l : Line F K). record l { frames = g l.frames }) none
+    (ap (λ fs. let l : Line F K = record no_line { frames = fs } in l) empty)
