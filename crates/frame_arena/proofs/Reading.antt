@@ -3,7 +3,7 @@ use Rattle.std.proofs.Common.{◌≡◌, ◌≢◌, ℕ, zero, suc, ◌+◌, ◌
 use Rattle.std.proofs.lemmas.Bool.{cases_lt, false≢true}
 use Rattle.std.proofs.lemmas.List.{length-map, map-append, get_or_default, set-get_or, get_or_append_left, set-append_left, length-append, length-replicate}
 use Rattle.frame_arena.specs.Line.{Line}
-use Rattle.frame_arena.specs.Lines.{no_line, new_line, line_at, is_live, with_frames, with_kept, with_members, without, forked, IsOrdered, IsNext}
+use Rattle.frame_arena.specs.Lines.{no_line, new_line, line_at, is_live, frames_of, with_frames, with_kept, with_members, without, forked, IsOrdered, IsNext}
 use Rattle.frame_arena.specs.Entries.{Entry, entry, entries, numbers, over, line_of, lines_from, new_entries}
 use Rattle.frame_arena.specs.Places.{Rises, IsRising, IsPlace, IsRowOf, IsNextRow, IsSound}
 use Rattle.frame_arena.specs.declared.row.Row.{Row}
@@ -176,8 +176,8 @@ kept_change rows xs ls next n k x r f keeps sound view is row at now =
 -- a row changed in its members
 pub members_change : {F K : Type 0} (rows xs : List (Row F K)) (ls : List (Line F K)) (next n k first count : ℕ) (x r : Row F K)
     → (0 < count → (n < first) × (first + count ≤ next)) → IsSound (entries rows) next → lines_from (entries rows) 0 next ≡ ls → xs ≡ rows → IsRowOf (entries xs) n k
-    → x ≡ get_or rows k x → entry r ≡ over (λ l. record l { first = first; count = count; undone = count }) (entry x)
-    → IsChanged (entries (set rows k r)) ls next n (λ l. record l { first = first; count = count; undone = count })
+    → x ≡ get_or rows k x → entry r ≡ over (λ (l : Line F K). record l { first = first; count = count; undone = count }) (entry x)
+    → IsChanged (entries (set rows k r)) ls next n (λ (l : Line F K). record l { first = first; count = count; undone = count })
 members_change {F} {K} rows xs ls next n k first count x r fits sound view is row at now =
     let f : Line F K → Line F K = λ l. record l { first = first; count = count; undone = count } in
     let changed = put_row rows next n k x r f sound (row_in rows xs n k is row) at now (λ l live. live) (λ l was some. fits some) (λ l. refl) in
@@ -195,10 +195,21 @@ freed_change {F} {K} rows xs ls next n k x r sound view is row at same dead =
 pub frames_change : {F K : Type 0} (rows xs : List (Row F K)) (ls : List (Line F K)) (next n k : ℕ) (x r : Row F K) (g : List F → List F) → IsSound (entries rows) next
     → lines_from (entries rows) 0 next ≡ ls → xs ≡ rows → IsRowOf (entries xs) n k → x ≡ get_or rows k x
     → r.number ≡ x.number → r.is_live ≡ x.is_live → r.parent ≡ x.parent → r.first ≡ x.first → r.count ≡ x.count → r.undone ≡ x.undone → r.kept ≡ x.kept
-    → r.frames.items ≡ g x.frames.items → IsChanged (entries (set rows k r)) ls next n (λ l. record l { frames = g l.frames })
+    → r.frames.items ≡ g x.frames.items → IsChanged (entries (set rows k r)) ls next n (λ (l : Line F K). record l { frames = g l.frames })
 frames_change {F} {K} rows xs ls next n k x r g sound view is row at same_number same_live same_parent same_first same_count same_undone same_kept now =
     let f : Line F K → Line F K = λ l. record l { frames = g l.frames } in
-    let changed : entry r ≡ over f (entry x) = cc in
+    let changed : entry r ≡ record {
+      number = x.number;
+      line = record {
+        is_live = x.is_live;
+        parent = x.parent;
+        first = x.first;
+        count = x.count;
+        undone = x.undone;
+        frames = g x.frames.items;
+        kept = x.kept.items;
+      };
+    } = cc in
     kept_change rows xs ls next n k x r f (λ l. record { live = refl; parent = refl; first = refl; count = refl }) sound view is row at changed
 
 -- a strand that is not there has no frames to change
@@ -206,3 +217,57 @@ pub no_frames : {F K : Type 0} (ls : List (Line F K)) (n : ℕ) (g : List F → 
 no_frames {F} {K} ls n g none empty =
     unchanged ls n (λ (l : Line F K). record l { frames = g l.frames }) none
     (ap (λ fs. let l : Line F K = record no_line { frames = fs } in l) empty)
+
+-- ---- each half of a change by itself
+
+pub kept_sound : {F K : Type 0} (rows xs : List (Row F K)) (ls : List (Line F K)) (next n k : ℕ) (x r : Row F K) (f : Line F K → Line F K)
+    → ((l : Line F K) → Keeps l (f l)) → IsSound (entries rows) next → lines_from (entries rows) 0 next ≡ ls → xs ≡ rows → IsRowOf (entries xs) n k
+    → x ≡ get_or rows k x → entry r ≡ over f (entry x) → IsSound (entries (set rows k r)) next
+kept_sound rows xs ls next n k x r f keeps sound view is row at now =
+    (kept_change rows xs ls next n k x r f keeps sound view is row at now).sound
+
+pub kept_lines : {F K : Type 0} (rows xs : List (Row F K)) (ls : List (Line F K)) (next n k : ℕ) (x r : Row F K) (f : Line F K → Line F K)
+    → ((l : Line F K) → Keeps l (f l)) → IsSound (entries rows) next → lines_from (entries rows) 0 next ≡ ls → xs ≡ rows → IsRowOf (entries xs) n k
+    → x ≡ get_or rows k x → entry r ≡ over f (entry x) → lines_from (entries (set rows k r)) 0 next ≡ set ls n (f (line_at ls n))
+kept_lines rows xs ls next n k x r f keeps sound view is row at now =
+    (kept_change rows xs ls next n k x r f keeps sound view is row at now).lines
+
+pub members_sound : {F K : Type 0} (rows xs : List (Row F K)) (ls : List (Line F K)) (next n k first count : ℕ) (x r : Row F K)
+    → (0 < count → (n < first) × (first + count ≤ next)) → IsSound (entries rows) next → lines_from (entries rows) 0 next ≡ ls → xs ≡ rows → IsRowOf (entries xs) n k
+    → x ≡ get_or rows k x → entry r ≡ over (λ (l : Line F K). record l { first = first; count = count; undone = count }) (entry x)
+    → IsSound (entries (set rows k r)) next
+members_sound rows xs ls next n k first count x r fits sound view is row at now =
+    (members_change rows xs ls next n k first count x r fits sound view is row at now).sound
+
+pub members_lines : {F K : Type 0} (rows xs : List (Row F K)) (ls : List (Line F K)) (next n k first count : ℕ) (x r : Row F K)
+    → (0 < count → (n < first) × (first + count ≤ next)) → IsSound (entries rows) next → lines_from (entries rows) 0 next ≡ ls → xs ≡ rows → IsRowOf (entries xs) n k
+    → x ≡ get_or rows k x → entry r ≡ over (λ (l : Line F K). record l { first = first; count = count; undone = count }) (entry x)
+    → lines_from (entries (set rows k r)) 0 next ≡ with_members ls n first count
+members_lines rows xs ls next n k first count x r fits sound view is row at now =
+    (members_change rows xs ls next n k first count x r fits sound view is row at now).lines
+
+pub freed_sound : {F K : Type 0} (rows xs : List (Row F K)) (ls : List (Line F K)) (next n k : ℕ) (x r : Row F K) → IsSound (entries rows) next
+    → lines_from (entries rows) 0 next ≡ ls → xs ≡ rows → IsRowOf (entries xs) n k → x ≡ get_or rows k x → r.number ≡ x.number → r.is_live ≡ false
+    → IsSound (entries (set rows k r)) next
+freed_sound rows xs ls next n k x r sound view is row at same dead =
+    (freed_change rows xs ls next n k x r sound view is row at same dead).sound
+
+pub freed_lines : {F K : Type 0} (rows xs : List (Row F K)) (ls : List (Line F K)) (next n k : ℕ) (x r : Row F K) → IsSound (entries rows) next
+    → lines_from (entries rows) 0 next ≡ ls → xs ≡ rows → IsRowOf (entries xs) n k → x ≡ get_or rows k x → r.number ≡ x.number → r.is_live ≡ false
+    → lines_from (entries (set rows k r)) 0 next ≡ without ls n
+freed_lines rows xs ls next n k x r sound view is row at same dead =
+    (freed_change rows xs ls next n k x r sound view is row at same dead).lines
+
+pub frames_sound : {F K : Type 0} (rows xs : List (Row F K)) (ls : List (Line F K)) (next n k : ℕ) (x r : Row F K) (g : List F → List F) → IsSound (entries rows) next
+    → lines_from (entries rows) 0 next ≡ ls → xs ≡ rows → IsRowOf (entries xs) n k → x ≡ get_or rows k x
+    → r.number ≡ x.number → r.is_live ≡ x.is_live → r.parent ≡ x.parent → r.first ≡ x.first → r.count ≡ x.count → r.undone ≡ x.undone → r.kept ≡ x.kept
+    → r.frames.items ≡ g x.frames.items → IsSound (entries (set rows k r)) next
+frames_sound rows xs ls next n k x r g sound view is row at number live parent first count undone kept now =
+    (frames_change rows xs ls next n k x r g sound view is row at number live parent first count undone kept now).sound
+
+pub frames_lines : {F K : Type 0} (rows xs : List (Row F K)) (ls : List (Line F K)) (next n k : ℕ) (x r : Row F K) (g : List F → List F) → IsSound (entries rows) next
+    → lines_from (entries rows) 0 next ≡ ls → xs ≡ rows → IsRowOf (entries xs) n k → x ≡ get_or rows k x
+    → r.number ≡ x.number → r.is_live ≡ x.is_live → r.parent ≡ x.parent → r.first ≡ x.first → r.count ≡ x.count → r.undone ≡ x.undone → r.kept ≡ x.kept
+    → r.frames.items ≡ g x.frames.items → lines_from (entries (set rows k r)) 0 next ≡ with_frames ls n (g (frames_of ls n))
+frames_lines rows xs ls next n k x r g sound view is row at number live parent first count undone kept now =
+    (frames_change rows xs ls next n k x r g sound view is row at number live parent first count undone kept now).lines
