@@ -2,7 +2,6 @@
 #![tactic(auto)]
 
 mod arena;
-mod probe;
 mod row;
 mod strand;
 
