@@ -161,12 +161,12 @@ live_of {F} {K} rows xs next n k x sound is row at =
     ap (λ (l : Line F K). l.is_live) (sym same) ∙ mine.live
 
 -- rows of which one has changed, and the strands that contracts see then
-pub record IsChanged {F K : Type 0} (fs : List (Entry F K)) (ls : List (Line F K)) (next n : ℕ) (f : Line F K → Line F K) : Type 0 where
+record IsChanged {F K : Type 0} (fs : List (Entry F K)) (ls : List (Line F K)) (next n : ℕ) (f : Line F K → Line F K) : Type 0 where
   pub sound : IsSound fs next
   pub lines : lines_from fs 0 next ≡ set ls n (f (line_at ls n))
 
 -- a row changed, but for what it says of the strand's place among others
-pub kept_change : {F K : Type 0} (rows xs : List (Row F K)) (ls : List (Line F K)) (next n k : ℕ) (x r : Row F K) (f : Line F K → Line F K)
+kept_change : {F K : Type 0} (rows xs : List (Row F K)) (ls : List (Line F K)) (next n k : ℕ) (x r : Row F K) (f : Line F K → Line F K)
     → ((l : Line F K) → Keeps l (f l)) → IsSound (entries rows) next → lines_from (entries rows) 0 next ≡ ls → xs ≡ rows → IsRowOf (entries xs) n k
     → x ≡ get_or rows k x → entry r ≡ over f (entry x) → IsChanged (entries (set rows k r)) ls next n f
 kept_change rows xs ls next n k x r f keeps sound view is row at now =
@@ -174,7 +174,7 @@ kept_change rows xs ls next n k x r f keeps sound view is row at now =
     record { sound = changed.sound; lines = seen (entries rows) (entries (set rows k r)) ls next n f changed view }
 
 -- a row changed in its members
-pub members_change : {F K : Type 0} (rows xs : List (Row F K)) (ls : List (Line F K)) (next n k first count : ℕ) (x r : Row F K)
+members_change : {F K : Type 0} (rows xs : List (Row F K)) (ls : List (Line F K)) (next n k first count : ℕ) (x r : Row F K)
     → (0 < count → (n < first) × (first + count ≤ next)) → IsSound (entries rows) next → lines_from (entries rows) 0 next ≡ ls → xs ≡ rows → IsRowOf (entries xs) n k
     → x ≡ get_or rows k x → entry r ≡ over (λ (l : Line F K). record l { first = first; count = count; undone = count }) (entry x)
     → IsChanged (entries (set rows k r)) ls next n (λ (l : Line F K). record l { first = first; count = count; undone = count })
@@ -184,7 +184,7 @@ members_change {F} {K} rows xs ls next n k first count x r fits sound view is ro
     record { sound = changed.sound; lines = seen (entries rows) (entries (set rows k r)) ls next n f changed view }
 
 -- a row that is not in use any more
-pub freed_change : {F K : Type 0} (rows xs : List (Row F K)) (ls : List (Line F K)) (next n k : ℕ) (x r : Row F K) → IsSound (entries rows) next
+freed_change : {F K : Type 0} (rows xs : List (Row F K)) (ls : List (Line F K)) (next n k : ℕ) (x r : Row F K) → IsSound (entries rows) next
     → lines_from (entries rows) 0 next ≡ ls → xs ≡ rows → IsRowOf (entries xs) n k → x ≡ get_or rows k x → r.number ≡ x.number → r.is_live ≡ false
     → IsChanged (entries (set rows k r)) ls next n (λ l. no_line)
 freed_change {F} {K} rows xs ls next n k x r sound view is row at same dead =
@@ -192,7 +192,7 @@ freed_change {F} {K} rows xs ls next n k x r sound view is row at same dead =
     record { sound = changed.sound; lines = seen (entries rows) (entries (set rows k r)) ls next n (λ l. no_line) changed view }
 
 -- a row with other frames, made of those that it had
-pub frames_change : {F K : Type 0} (rows xs : List (Row F K)) (ls : List (Line F K)) (next n k : ℕ) (x r : Row F K) (g : List F → List F) → IsSound (entries rows) next
+frames_change : {F K : Type 0} (rows xs : List (Row F K)) (ls : List (Line F K)) (next n k : ℕ) (x r : Row F K) (g : List F → List F) → IsSound (entries rows) next
     → lines_from (entries rows) 0 next ≡ ls → xs ≡ rows → IsRowOf (entries xs) n k → x ≡ get_or rows k x
     → r.number ≡ x.number → r.is_live ≡ x.is_live → r.parent ≡ x.parent → r.first ≡ x.first → r.count ≡ x.count → r.undone ≡ x.undone → r.kept ≡ x.kept
     → r.frames.items ≡ g x.frames.items → IsChanged (entries (set rows k r)) ls next n (λ (l : Line F K). record l { frames = g l.frames })
@@ -271,3 +271,57 @@ pub frames_lines : {F K : Type 0} (rows xs : List (Row F K)) (ls : List (Line F 
     → r.frames.items ≡ g x.frames.items → lines_from (entries (set rows k r)) 0 next ≡ with_frames ls n (g (frames_of ls n))
 frames_lines rows xs ls next n k x r g sound view is row at number live parent first count undone kept now =
     (frames_change rows xs ls next n k x r g sound view is row at number live parent first count undone kept now).lines
+
+-- ---- new members
+
+-- rows with those of new strands after them
+pub grown_in : {F K : Type 0} (rows more : List (Row F K)) (ls : List (Line F K)) (next n count : ℕ) → IsSound (entries rows) next
+    → lines_from (entries rows) 0 next ≡ ls → is_live ls n ≡ true → entries more ≡ entries rows ++ new_entries (Some n) next count
+    → IsSound (entries more) (next + count)
+grown_in {F} {K} rows more ls next n count sound view live is =
+    subst (λ (es : List (Entry F K)). IsSound es (next + count)) (sym is)
+    (grown (entries rows) next n count sound (there (entries rows) ls next n sound view live))
+
+-- the strand whose members they are is there as before
+pub parent_in : {F K : Type 0} (rows more xs : List (Row F K)) (ls : List (Line F K)) (next n count : ℕ) → IsSound (entries rows) next
+    → lines_from (entries rows) 0 next ≡ ls → is_live ls n ≡ true → entries more ≡ entries rows ++ new_entries (Some n) next count → xs ≡ more
+    → (line_of (entries xs) n).is_live ≡ true
+parent_in {F} {K} rows more xs ls next n count sound view live is same =
+    ap (λ (l : List (Row F K)). (line_of (entries l) n).is_live) same
+    ∙ ap (λ (es : List (Entry F K)). (line_of es n).is_live) is
+    ∙ grown_line (entries rows) next n count sound (there (entries rows) ls next n sound view live)
+
+-- its row with the new members
+fork_change : {F K : Type 0} (rows more xs : List (Row F K)) (ls : List (Line F K)) (next n count k : ℕ) (x r : Row F K) → IsSound (entries rows) next
+    → lines_from (entries rows) 0 next ≡ ls → is_live ls n ≡ true → entries more ≡ entries rows ++ new_entries (Some n) next count → xs ≡ more
+    → IsRowOf (entries xs) n k → x ≡ get_or more k x
+    → entry r ≡ over (λ (l : Line F K). record l { first = next; count = count; undone = count }) (entry x)
+    → IsSound (entries (set more k r)) (next + count) × (lines_from (entries (set more k r)) 0 (next + count) ≡ forked ls n count)
+fork_change {F} {K} rows more xs ls next n count k x r sound view live is same row at now =
+    let f : Line F K → Line F K = λ l. record l { first = next; count = count; undone = count } in
+    let mine = there (entries rows) ls next n sound view live in
+    let below : n < next = below_next (entries rows) next n sound mine in
+    let fits : 0 < count → (n < next) × (next + count ≤ next + count) = λ some. (below, omega arith) in
+    let changed = put_row more (next + count) n k x r f (grown_in rows more ls next n count sound view live is) (row_in more xs n k same row) at now
+    (λ l lives. lives) (λ l was some. fits some) (λ l. refl) in
+    let fs = entries (set more k r) in
+    let moved : Changed (entries rows ++ new_entries (Some n) next count) fs (next + count) n
+    (f (line_at (lines_from (entries rows ++ new_entries (Some n) next count) 0 (next + count)) n)) =
+    subst (λ (es : List (Entry F K)). Changed es fs (next + count) n (f (line_at (lines_from es 0 (next + count)) n))) is changed in
+    (changed.sound, forks (entries rows) fs ls next n count sound mine view moved)
+
+pub fork_sound : {F K : Type 0} (rows more xs : List (Row F K)) (ls : List (Line F K)) (next n count k : ℕ) (x r : Row F K) → IsSound (entries rows) next
+    → lines_from (entries rows) 0 next ≡ ls → is_live ls n ≡ true → entries more ≡ entries rows ++ new_entries (Some n) next count → xs ≡ more
+    → IsRowOf (entries xs) n k → x ≡ get_or more k x
+    → entry r ≡ over (λ (l : Line F K). record l { first = next; count = count; undone = count }) (entry x)
+    → IsSound (entries (set more k r)) (next + count)
+fork_sound rows more xs ls next n count k x r sound view live is same row at now =
+    (fork_change rows more xs ls next n count k x r sound view live is same row at now).0
+
+pub fork_lines : {F K : Type 0} (rows more xs : List (Row F K)) (ls : List (Line F K)) (next n count k : ℕ) (x r : Row F K) → IsSound (entries rows) next
+    → lines_from (entries rows) 0 next ≡ ls → is_live ls n ≡ true → entries more ≡ entries rows ++ new_entries (Some n) next count → xs ≡ more
+    → IsRowOf (entries xs) n k → x ≡ get_or more k x
+    → entry r ≡ over (λ (l : Line F K). record l { first = next; count = count; undone = count }) (entry x)
+    → lines_from (entries (set more k r)) 0 (next + count) ≡ forked ls n count
+fork_lines rows more xs ls next n count k x r sound view live is same row at now =
+    (fork_change rows more xs ls next n count k x r sound view live is same row at now).1

@@ -69,9 +69,10 @@ impl<F: Copy, K: Drop> Arena<F, K> {
     fn tidy(&mut self)
         ensures { self.new ≡ self.old }
     {
-        if self.rows.len() as u64 / 2 < self.freed {
-            squeeze(&mut self.rows);
-            self.freed = 0;
+        if self.freed <= self.rows.len() as u64 / 2 {
+            return;
         }
+        squeeze(&mut self.rows);
+        self.freed = 0;
     }
 }
