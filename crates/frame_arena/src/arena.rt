@@ -17,6 +17,7 @@ pub struct Arena<F, K> {
     rows: Vec<Row<F, K>>,
     next: u64,
     freed: u64,
+    alloc: Global,
 }
 
 impl<F, K> Model for Arena<F, K> {
@@ -46,6 +47,7 @@ impl<F: Copy, K: Drop> Arena<F, K> {
             rows,
             next: 1,
             freed: 0,
+            alloc,
         })
     }
 

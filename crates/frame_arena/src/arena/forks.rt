@@ -4,7 +4,7 @@ ghost use Rattle.frame_arena.specs.Lines as spec;
 use super::Arena;
 use crate::row::{grow, live_row, row_of, squeeze};
 use crate::strand::StrandNo;
-use std::alloc::{AllocError, Global};
+use std::alloc::AllocError;
 
 impl<F: Copy, K: Drop> Arena<F, K> {
     /// Adds so many strands, which have nothing yet, as the members of one; the first of them.
@@ -20,7 +20,7 @@ impl<F: Copy, K: Drop> Arena<F, K> {
         ensures first { IfOk result (λ s. s.number ≡ length self.old) }
     {
         let first = self.next;
-        grow(&mut self.rows, alloc, strand.number, first, count)?;
+        grow(&mut self.rows, self.alloc, strand.number, first, count)?;
         self.next = first + count;
         let place = live_row(&self.rows, strand.number);
         let row = &mut self.rows[place];

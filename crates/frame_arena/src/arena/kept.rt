@@ -4,7 +4,6 @@ ghost use Rattle.frame_arena.specs.Lines as spec;
 use super::Arena;
 use crate::row::{live_row, row_of};
 use crate::strand::StrandNo;
-use std::alloc::Global;
 use std::mem;
 
 impl<F: Copy, K: Drop> Arena<F, K> {
@@ -19,13 +18,13 @@ impl<F: Copy, K: Drop> Arena<F, K> {
     }
 
     /// Takes all that a strand keeps.
-    pub fn take_kept(&mut self, alloc: Global, strand: StrandNo) -> Vec<K>
+    pub fn take_kept(&mut self, strand: StrandNo) -> Vec<K>
         ensures kept { result.items ≡ spec.kept_of self.old strand.number }
         ensures rest { self.new ≡ spec.with_kept self.old strand.number [] }
     {
         match row_of(&self.rows, strand.number) {
-            Some(row) => mem::replace(&mut self.rows[row].kept, Vec::new(alloc)),
-            None => Vec::new(alloc),
+            Some(row) => mem::replace(&mut self.rows[row].kept, Vec::new(self.alloc)),
+            None => Vec::new(self.alloc),
         }
     }
 
