@@ -8,12 +8,7 @@ use std::alloc::AllocError;
 
 impl<F: Copy, K: Drop> Arena<F, K> {
     /// Adds so many strands, which have nothing yet, as the members of one; the first of them.
-    pub fn fork(
-        &mut self,
-        alloc: Global,
-        strand: StrandNo,
-        count: u64,
-    ) -> Result<StrandNo, AllocError>
+    pub fn fork(&mut self, strand: StrandNo, count: u64) -> Result<StrandNo, AllocError>
         requires live { spec.is_live self.old strand.number ≡ true }
         requires numbers { length self.old + count < 2 ^ 64 }
         ensures strands { self.new ≡ (if is_ok result then spec.forked self.old strand.number count else self.old) }
