@@ -1,0 +1,34 @@
+use Rattle.std.proofs.Common.{◌≡◌, ◌-◌, List, [], length, take, slice_get, refl, sym, ap, ◌∙◌, arith}
+use Rattle.std.proofs.lemmas.List.{take_all}
+use Rattle.frame_arena.specs.Line.{Line}
+use Rattle.frame_arena.proofs.Reading.{rising_in, none_in, no_frames, frames_sound, frames_lines}
+use Rattle.frame_arena.proofs.arena.Arena.pop.Goals as goal
+
+pub row_of-requires : goal.row_of-requires
+row_of-requires g c = rising_in c.self.inside.rows.items c.deref.result.now c.self.inside.next c.self.invariant c.deref.ensures.value
+
+pub returns-in-None-clause-top : goal.returns-in-None-clause-top
+returns-in-None-clause-top g c =
+    let i = c.self.inside in
+    sym (ap (λ (l : Line g.row.F.Denot g.row.K.Denot). slice_get l.frames (length l.frames - 1))
+    (none_in i.rows.items c.deref.result.now c.args.self.now i.next c.args.strand.number c.self.invariant c.self.view_is c.deref.ensures.value c.in-None.ensures.row))
+
+pub returns-in-None-clause-rest : goal.returns-in-None-clause-rest
+returns-in-None-clause-rest g c =
+    let i = c.self.inside in
+    no_frames c.args.self.now c.args.strand.number (λ fs. take (length fs - 1) fs)
+    (none_in i.rows.items c.deref.result.now c.args.self.now i.next c.args.strand.number c.self.invariant c.self.view_is c.deref.ensures.value c.in-None.ensures.row) (take_all 0 [] (omega arith))
+
+pub invariant_of-self : goal.invariant_of-self
+invariant_of-self g c =
+    let i = c.self.inside in
+    frames_sound i.rows.items c.deref.result.now c.args.self.now i.next c.args.strand.number c.in-Some.row c.index_mut.result.now _ (λ fs. take (length fs - 1) fs)
+    c.self.invariant c.self.view_is c.deref.ensures.value c.in-Some.ensures.row c.index_mut.ensures.value
+    refl refl refl refl refl refl refl c.pop.ensures.rest
+
+pub returns-in-Some-clause-rest : goal.returns-in-Some-clause-rest
+returns-in-Some-clause-rest g c =
+    let i = c.self.inside in
+    frames_lines i.rows.items c.deref.result.now c.args.self.now i.next c.args.strand.number c.in-Some.row c.index_mut.result.now _ (λ fs. take (length fs - 1) fs)
+    c.self.invariant c.self.view_is c.deref.ensures.value c.in-Some.ensures.row c.index_mut.ensures.value
+    refl refl refl refl refl refl refl c.pop.ensures.rest
