@@ -90,7 +90,7 @@ squeezed (e ∷ es) n =
 
 pub squeezed-rises : {F K : Type 0} (es : List (Entry F K)) (from next : ℕ) → Rises from (numbers es) next → Rises from (numbers (filter is_used es)) next
 squeezed-rises [] from next r = r
-squeezed-rises (e ∷ es) from next r =
+squeezed-rises {F} {K} (e ∷ es) from next r =
     let rest : Rises (suc e.number) (numbers (filter is_used es)) next = squeezed-rises es (suc e.number) next r.1 in
     ⊎_elim
     (λ live. subst (λ (l : List (Entry F K)). Rises from (numbers l) next) (sym (cond-true e.line.is_live (e ∷ filter is_used es) (filter is_used es) live)) (r.0, rest))
@@ -139,7 +139,7 @@ new_at {F} {K} parent from (suc count) (suc i) m lt is =
     ∙ new_at {F = F} {K = K} parent (suc from) count i m (omega (arith, lt)) (omega (arith, is))
 
 pub new_more : {F K : Type 0} (parent : Option ℕ) (from i m : ℕ) → m ≡ from + i
-    → new_entries {F = F} {K = K} parent from (i + 1) ≡ new_entries parent from i ++ new_entry parent m ∷ []
+    → new_entries {F = F} {K = K} parent from (suc i) ≡ new_entries parent from i ++ new_entry parent m ∷ []
 new_more {F} {K} parent from zero m is =
     let here : from ≡ m = omega (arith, is) in
     ap (λ k. new_entry {F = F} {K = K} parent k ∷ []) here

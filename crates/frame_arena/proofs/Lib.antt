@@ -5,3 +5,5 @@ pub mod Lines
 pub mod Reading
 pub mod Rising
 pub mod Rows
+pub mod Seeking
+pub mod Taking

@@ -160,6 +160,19 @@ live_of {F} {K} rows xs next n k x sound is row at =
     mine.line (entry x) ∙ ap (λ (e : Entry F K). e.line) (entry_at rows k x (entry x) (omega (arith, mine.within, length-map rows (entry {F = F} {K = K}))) at) in
     ap (λ (l : Line F K). l.is_live) (sym same) ∙ mine.live
 
+pub next_in : {F K : Type 0} (rows xs : List (Row F K)) (ls : List (Line F K)) (next from k : ℕ) (x : Row F K) → IsSound (entries rows) next
+    → lines_from (entries rows) 0 next ≡ ls → xs ≡ rows → IsNextRow (entries xs) from k → x ≡ get_or rows k x → IsNext ls from x.number
+next_in {F} {K} rows xs ls next from k x sound view is row at =
+    let mine = subst (λ (l : List (Row F K)). IsNextRow (entries l) from k) is row in
+    let within : k < length rows = omega (arith, mine.within, length-map rows (entry {F = F} {K = K})) in
+    next_is (entries rows) ls next from k x.number (entry x) sound view mine (entry_at rows k x (entry x) within at) refl
+
+pub none_next_in : {F K : Type 0} (rows xs : List (Row F K)) (ls : List (Line F K)) (next from : ℕ) → IsSound (entries rows) next
+    → lines_from (entries rows) 0 next ≡ ls → xs ≡ rows → ((n : ℕ) → from ≤ n → line_of (entries xs) n ≡ no_line)
+    → (n : ℕ) → from ≤ n → is_live ls n ≡ false
+none_next_in {F} {K} rows xs ls next from sound view is none =
+    none_next (entries rows) ls next from sound view (λ n above. ap (λ (l : List (Row F K)). line_of (entries l) n) (sym is) ∙ none n above)
+
 -- rows of which one has changed, and the strands that contracts see then
 record IsChanged {F K : Type 0} (fs : List (Entry F K)) (ls : List (Line F K)) (next n : ℕ) (f : Line F K → Line F K) : Type 0 where
   pub sound : IsSound fs next

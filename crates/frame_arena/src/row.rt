@@ -59,10 +59,17 @@ pub fn row_of<F: Copy, K: Drop>(rows: &[Row<F, K>], number: u64) -> Option<usize
     ensures within { IfSome result (λ k. k < length rows.now) }
 {
     let place = place_of(rows, number);
-    if place < rows.len() && rows[place].number == number && rows[place].is_live {
-        return Some(place);
+    if place >= rows.len() {
+        return None;
     }
-    None
+    let row = &rows[place];
+    if row.number != number {
+        return None;
+    }
+    if !row.is_live {
+        return None;
+    }
+    Some(place)
 }
 
 /// The row of a strand that is there.

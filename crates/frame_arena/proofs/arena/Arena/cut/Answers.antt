@@ -6,11 +6,11 @@ use Rattle.frame_arena.proofs.arena.Arena.cut.Goals as goal
 pub row_of-requires : goal.row_of-requires
 row_of-requires g c = rising_in c.self.inside.rows.items c.deref.result.now c.self.inside.next c.self.invariant c.deref.ensures.value
 
-pub returns-in-None : goal.returns-in-None
-returns-in-None g c =
+pub returns-in_default : goal.returns-in_default
+returns-in_default g c =
     let i = c.self.inside in
     no_frames c.args.self.now c.args.strand.number (take c.args.depth)
-    (none_in i.rows.items c.deref.result.now c.args.self.now i.next c.args.strand.number c.self.invariant c.self.view_is c.deref.ensures.value c.in-None.ensures.row)
+    (none_in i.rows.items c.deref.result.now c.args.self.now i.next c.args.strand.number c.self.invariant c.self.view_is c.deref.ensures.value c.in_default.ensures.row)
     (take_all c.args.depth [] (omega arith))
 
 pub invariant_of-self : goal.invariant_of-self

@@ -6,11 +6,11 @@ use Rattle.frame_arena.proofs.arena.Arena.disband.Goals as goal
 pub row_of-requires : goal.row_of-requires
 row_of-requires g c = rising_in c.self.inside.rows.items c.deref.result.now c.self.inside.next c.self.invariant c.deref.ensures.value
 
-pub returns-in-None : goal.returns-in-None
-returns-in-None g c =
+pub returns-in_default : goal.returns-in_default
+returns-in_default g c =
     let i = c.self.inside in
     unchanged c.args.self.now c.args.strand.number (λ (l : Line g.row.F.Denot g.row.K.Denot). record l { first = 0; count = 0; undone = 0 })
-    (none_in i.rows.items c.deref.result.now c.args.self.now i.next c.args.strand.number c.self.invariant c.self.view_is c.deref.ensures.value c.in-None.ensures.row) refl
+    (none_in i.rows.items c.deref.result.now c.args.self.now i.next c.args.strand.number c.self.invariant c.self.view_is c.deref.ensures.value c.in_default.ensures.row) refl
 
 pub invariant_of-self : goal.invariant_of-self
 invariant_of-self g c =

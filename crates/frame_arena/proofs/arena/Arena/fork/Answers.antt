@@ -1,4 +1,5 @@
-use Rattle.std.proofs.Common.{◌≡◌, ◌+◌, List, length, refl, sym, ap, subst, ◌∙◌, arith}
+use Rattle.std.proofs.Common.{rules, ◌≡◌, ◌+◌, false, List, length, is_ok, refl, sym, ap, subst, ◌∙◌, arith}
+use Rattle.std.proofs.lemmas.Bool.{cond-false}
 use Rattle.frame_arena.specs.Entries.{Entry, entries, lines_from}
 use Rattle.frame_arena.specs.Places.{IsSound}
 use Rattle.frame_arena.proofs.Lines.{length_lines}
@@ -10,13 +11,20 @@ grow-requires g c =
     let i = c.self.inside in
     omega (arith, c.requires.numbers, ap length c.self.view_is, length_lines (entries i.rows.items) 0 i.next)
 
+pub overflow_add-self : goal.overflow_add-self
+overflow_add-self g c =
+    let i = c.self.inside in
+    omega (arith, c.requires.numbers, ap length c.self.view_is, length_lines (entries i.rows.items) 0 i.next)
+
 pub invariant_of-self : goal.invariant_of-self
 invariant_of-self g c =
     subst (λ (es : List (Entry g.row.F.Denot g.row.K.Denot)). IsSound es c.self.inside.next) (sym c.in_err-grow.ensures) c.self.invariant
 
 pub returns-in_err-grow-clause-strands : goal.returns-in_err-grow-clause-strands
 returns-in_err-grow-clause-strands g c =
+    let failed : is_ok c.from_residual.result ≡ false = search rules in
     ap (λ (es : List (Entry g.row.F.Denot g.row.K.Denot)). lines_from es 0 c.self.inside.next) c.in_err-grow.ensures ∙ c.self.view_is
+    ∙ sym (cond-false (is_ok c.from_residual.result) _ _ failed)
 
 pub live_row-place-requires-clause-rising : goal.live_row-place-requires-clause-rising
 live_row-place-requires-clause-rising g c =
