@@ -1,4 +1,4 @@
--- These definitions serve the proofs alone: no promise of a public call speaks of them.
+-- These definitions serve the proofs: no promise speaks of them, but what an `Arena` shows is made of them.
 -- Rows, and the strands that they hold.
 use Rattle.std.specs.Prelude.{ℕ, zero, suc, Bool, ◌&&◌, nat_eq, if◌then◌else◌, List, [], ◌∷◌, map, Option}
 use Rattle.frame_arena.specs.Line.{Line}

@@ -1,4 +1,4 @@
--- These definitions serve the proofs alone: no promise of a public call speaks of them.
+-- These definitions serve the proofs: no promise speaks of them, but what an `Arena` keeps of its rows is made of them.
 -- Where a strand's row stands.
 use Rattle.std.specs.Prelude.{◌≡◌, ◌<◌, ◌≤◌, ℕ, suc, true, List, [], ◌∷◌, length, slice_index_or}
 use Rattle.frame_arena.specs.Line.{Line}
