@@ -1,16 +1,16 @@
 -- What one row changed makes of the strands.
-use Rattle.std.proofs.Common.{◌≡◌, ◌≢◌, ℕ, zero, suc, ◌+◌, ◌<◌, ◌≤◌, Bool, true, false, cond, List, [], ◌∷◌, ◌++◌, length, get_or, set, map, filter, replicate, Option, Some, None, IfSome, sym, ap, subst, ◌∙◌, refl, arith, ⊎_elim}
+use Rattle.std.proofs.Common.{◌≡◌, ◌≢◌, ℕ, ◌+◌, ◌<◌, ◌≤◌, true, false, List, length, get_or, set, filter, IfSome, sym, ap, subst, ◌∙◌, arith, ⊎_elim}
 use Rattle.std.proofs.lemmas.Bool.{cases_Bool, cases_lt, cases_eq, cond-true, cond-false, false≢true}
-use Rattle.std.proofs.lemmas.List.{length-map, map-set, length-set, set-get_or, get_or-map, get_or_default}
+use Rattle.std.proofs.lemmas.List.{length-map, map-set, set-get_or, get_or-map, get_or_default}
 use Rattle.frame_arena.specs.Line.{Line}
-use Rattle.frame_arena.specs.Lines.{no_line, new_line, line_at, is_live, IsOrdered}
-use Rattle.frame_arena.specs.Entries.{Entry, entry, entries, numbers, is_used, shown, over, line_of, lines_from, new_entries}
+use Rattle.frame_arena.specs.Lines.{no_line, line_at, IsOrdered}
+use Rattle.frame_arena.specs.Entries.{Entry, entry, entries, numbers, is_used, shown, over, line_of, lines_from}
 use Rattle.frame_arena.specs.Places.{Rises, IsPlace, IsSound, IsRowOf}
 use Rattle.frame_arena.specs.declared.row.Row.{Row}
-use Rattle.frame_arena.proofs.Rising.{rises_below, rises_longer, rises_joined, place_is}
-use Rattle.frame_arena.proofs.Found.{shows_at, none_there, set_same, set_other, none_above, squeezed, squeezed-rises, new_rises}
-use Rattle.frame_arena.proofs.Lines.{length_lines, line_is, lines_same, lines_set, ordered_set, lines_joined, ordered_joined}
-use Rattle.frame_arena.proofs.Rows.{entry_at, number_at}
+use Rattle.frame_arena.proofs.Rising.{rises_below, place_is}
+use Rattle.frame_arena.proofs.Found.{shows_at, none_there, set_same, set_other, squeezed, squeezed-rises}
+use Rattle.frame_arena.proofs.Lines.{length_lines, line_is, lines_same, lines_set, ordered_set}
+use Rattle.frame_arena.proofs.Rows.{entry_at}
 
 pub length_of_numbers : {F K : Type 0} (es : List (Entry F K)) → length (numbers es) ≡ length es
 length_of_numbers {F} {K} es = length-map es (λ (e : Entry F K). e.number)

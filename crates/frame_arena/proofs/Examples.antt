@@ -1,8 +1,8 @@
 -- The definitions, computed.
 use Rattle.std.proofs.Common.{◌≡◌, ℕ, true, false, List, [], ◌∷◌, Some, None, refl}
 use Rattle.frame_arena.specs.Line.{Line}
-use Rattle.frame_arena.specs.Lines.{no_line, new_line, line_at, is_live, frames_of, with_frames, with_members, without, forked}
-use Rattle.frame_arena.specs.Entries.{Entry, new_entry, new_entries, line_of, lines_from}
+use Rattle.frame_arena.specs.Lines.{no_line, new_line, line_at, is_live, frames_of, with_frames, without, forked}
+use Rattle.frame_arena.specs.Entries.{Entry, new_entry, lines_from}
 
 -- a root with one frame, which keeps one thing
 abbrev root : ℕ → ℕ → ℕ → Line ℕ ℕ

@@ -1,7 +1,6 @@
 -- The strand of a number among rows.
-use Rattle.std.proofs.Common.{◌≡◌, ◌≢◌, ℕ, zero, suc, ◌+◌, ◌<◌, ◌≤◌, Bool, true, false, cond, ◌&&◌, nat_eq, List, [], ◌∷◌, ◌++◌, length, get_or, set, map, filter, Option, Some, sym, ap, subst, ◌∙◌, refl, arith, ⊎_elim}
-use Rattle.std.proofs.lemmas.Bool.{cases_lt, cases_eq, cases_Bool, cond-true, cond-false, and_from, and_left, and_right, eq-eqb, ne_eqb}
-use Rattle.frame_arena.specs.Line.{Line}
+use Rattle.std.proofs.Common.{◌≡◌, ◌≢◌, ℕ, zero, suc, ◌+◌, ◌<◌, ◌≤◌, true, false, cond, nat_eq, List, [], ◌∷◌, ◌++◌, length, get_or, set, filter, Option, sym, ap, subst, ◌∙◌, refl, arith, ⊎_elim}
+use Rattle.std.proofs.lemmas.Bool.{cases_eq, cases_Bool, cond-true, cond-false, and_from, and_left, and_right, eq-eqb, ne_eqb}
 use Rattle.frame_arena.specs.Lines.{no_line, new_line}
 use Rattle.frame_arena.specs.Entries.{Entry, numbers, is_used, has_number, shown, line_of, new_entry, new_entries}
 use Rattle.frame_arena.specs.Places.{Rises}

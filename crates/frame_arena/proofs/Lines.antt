@@ -1,13 +1,12 @@
 -- The strands by number, of rows.
-use Rattle.std.proofs.Common.{◌≡◌, ◌≢◌, ℕ, zero, suc, ◌+◌, ◌-◌, ◌<◌, ◌≤◌, Bool, true, false, List, [], ◌∷◌, ◌++◌, length, get_or, set, replicate, Option, Some, None, IfSome, sym, ap, subst, ◌∙◌, refl, arith, ⊎_elim}
+use Rattle.std.proofs.Common.{◌≡◌, ◌≢◌, ℕ, zero, suc, ◌+◌, ◌-◌, ◌<◌, ◌≤◌, List, ◌∷◌, ◌++◌, length, get_or, set, replicate, Option, Some, IfSome, sym, ap, subst, ◌∙◌, refl, arith, ⊎_elim}
 use Rattle.std.proofs.lemmas.Bool.{cases_lt, cases_eq}
-use Rattle.std.proofs.lemmas.List.{ext_get_or, get_or-set_same, get_or-set_other, get_or_past, length-set, length-append, length-replicate, get_or_append_left, get_or-append_right, get_or-replicate, set-get_or, set-append_left}
+use Rattle.std.proofs.lemmas.List.{ext_get_or, get_or-set_same, get_or-set_other, get_or_past, length-set, length-append, length-replicate, get_or_append_left, get_or-append_right, get_or-replicate, set-get_or}
 use Rattle.frame_arena.specs.Line.{Line}
-use Rattle.frame_arena.specs.Lines.{no_line, new_line, line_at, is_live, without, with_members, forked, IsOrdered}
-use Rattle.frame_arena.specs.Entries.{Entry, numbers, shown, line_of, lines_from, new_entries}
-use Rattle.frame_arena.specs.Places.{Rises, IsSound, IsRowOf}
-use Rattle.frame_arena.proofs.Rising.{rises_below, rises_joined, rises_longer}
-use Rattle.frame_arena.proofs.Found.{none_above, joined_above, joined_below, new_rises, new_at, set_same, set_other}
+use Rattle.frame_arena.specs.Lines.{no_line, new_line, line_at, IsOrdered}
+use Rattle.frame_arena.specs.Entries.{Entry, numbers, line_of, lines_from, new_entries}
+use Rattle.frame_arena.specs.Places.{Rises}
+use Rattle.frame_arena.proofs.Found.{none_above, joined_above, joined_below, new_rises, new_at}
 
 pub length_lines : {F K : Type 0} (es : List (Entry F K)) (from count : ℕ) → length (lines_from es from count) ≡ count
 length_lines es from zero = refl

@@ -1,9 +1,9 @@
 -- What is read of a strand, and what is said of one that is not there.
-use Rattle.std.proofs.Common.{◌≡◌, ◌≢◌, ℕ, zero, suc, ◌+◌, ◌-◌, ◌<◌, ◌≤◌, Bool, true, false, List, [], ◌∷◌, ◌++◌, length, get_or, set, take, drop, map, replicate, Option, Some, None, sym, ap, subst, ◌∙◌, refl, arith, ⊎_elim}
+use Rattle.std.proofs.Common.{◌≡◌, ◌≢◌, ℕ, ◌+◌, ◌-◌, ◌<◌, ◌≤◌, true, false, List, [], ◌++◌, length, get_or, set, replicate, Some, sym, ap, subst, ◌∙◌, refl, arith, ⊎_elim}
 use Rattle.std.proofs.lemmas.Bool.{cases_lt, false≢true}
-use Rattle.std.proofs.lemmas.List.{length-map, map-append, get_or_default, set-get_or, get_or_append_left, set-append_left, length-append, length-replicate}
+use Rattle.std.proofs.lemmas.List.{length-map, map-append, get_or_default, get_or_append_left, set-append_left}
 use Rattle.frame_arena.specs.Line.{Line}
-use Rattle.frame_arena.specs.Lines.{no_line, new_line, line_at, is_live, frames_of, with_frames, with_kept, with_members, without, forked, IsOrdered, IsNext}
+use Rattle.frame_arena.specs.Lines.{no_line, new_line, line_at, is_live, frames_of, with_frames, with_members, without, forked, IsOrdered, IsNext}
 use Rattle.frame_arena.specs.Entries.{Entry, entry, entries, numbers, over, line_of, lines_from, new_entries}
 use Rattle.frame_arena.specs.Places.{Rises, IsRising, IsPlace, IsRowOf, IsNextRow, IsSound}
 use Rattle.frame_arena.specs.declared.row.Row.{Row}

@@ -1,8 +1,7 @@
 -- Rows in memory, as entries.
-use Rattle.std.proofs.Common.{◌≡◌, ℕ, ◌+◌, ◌<◌, ◌≤◌, Bool, true, false, cond, List, [], ◌∷◌, ◌++◌, length, get_or, set, map, filter, take, sym, ap, ◌∙◌, refl, arith, ⊎_elim}
+use Rattle.std.proofs.Common.{◌≡◌, ℕ, ◌+◌, ◌<◌, List, [], ◌∷◌, ◌++◌, length, get_or, filter, take, sym, ap, ◌∙◌, refl, arith, ⊎_elim}
 use Rattle.std.proofs.lemmas.Bool.{cases_Bool, cond-true, cond-false}
-use Rattle.std.proofs.lemmas.List.{length-map, get_or-map, map-set, map-append, take-map, take_at}
-use Rattle.frame_arena.specs.Lines.{no_line}
+use Rattle.std.proofs.lemmas.List.{length-map, get_or-map, take-map, take_at}
 use Rattle.frame_arena.specs.Entries.{Entry, entry, entries, numbers, is_used}
 use Rattle.frame_arena.specs.declared.row.Row.{Row}
 

@@ -1,5 +1,5 @@
 -- The strands of an arena by number: what a strand is, and the list with one of them changed.
-use Rattle.std.specs.Prelude.{◌≡◌, ◌<◌, ◌≤◌, ◌+◌, ◌-◌, ℕ, Bool, true, false, List, [], ◌∷◌, ◌++◌, length, take, replicate, Option, Some, None, slice_index_or, slice_set, slice_get, IfSome}
+use Rattle.std.specs.Prelude.{◌≡◌, ◌<◌, ◌≤◌, ◌+◌, ℕ, Bool, true, false, List, [], ◌++◌, length, replicate, Option, Some, None, slice_index_or, slice_set, IfSome}
 use Rattle.frame_arena.specs.Line.{Line}
 
 -- a strand that is not there

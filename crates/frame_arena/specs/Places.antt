@@ -1,7 +1,6 @@
 -- These definitions serve the proofs: no promise speaks of them, but what an `Arena` keeps of its rows is made of them.
 -- Where a strand's row stands.
 use Rattle.std.specs.Prelude.{◌≡◌, ◌<◌, ◌≤◌, ℕ, suc, true, List, [], ◌∷◌, length, slice_index_or}
-use Rattle.frame_arena.specs.Line.{Line}
 use Rattle.frame_arena.specs.Lines.{no_line, IsOrdered}
 use Rattle.frame_arena.specs.Entries.{Entry, numbers, line_of, lines_from}
 

@@ -2,9 +2,9 @@
 use Rattle.std.proofs.Common.{◌≡◌, [], ◌∷◌, None, refl}
 use Rattle.behaviour_tree.specs.Data.{Proc, nothing, no_procs, proc}
 use Rattle.session_calculus.specs.Tables.{empty}
-use Rattle.session_calculus.specs.Terms.{Fault, Term, done, place, seq, in_scope, fail, prot, live, last, term}
+use Rattle.session_calculus.specs.Terms.{Fault, done, place, seq, fail, prot, last}
 use Rattle.session_calculus.specs.Kill.{kill}
-use Rattle.session_calculus.specs.Start.{begun, normal}
+use Rattle.session_calculus.specs.Start.{begun}
 use Rattle.session_contexts.specs.Contexts.{rests, scoped, asked, kept, plug}
 use Rattle.session_contexts.specs.Tidy.{tidy}
 use Rattle.session_contexts.specs.Walks.{settled, killed_within}

@@ -1,9 +1,8 @@
 -- Kills in a context.
-use Rattle.std.proofs.Common.{◌≡◌, ℕ, Bool, true, false, List, [], ◌∷◌, ◌++◌, Option, None, Some, option_map, sym, ap, ◌∙◌, refl}
-use Rattle.behaviour_tree.specs.Data.{Proc, PathTree, Procs, no_procs, proc}
-use Rattle.session_calculus.specs.Tables.{Table, entry}
-use Rattle.session_calculus.specs.Terms.{Fault, Term, Strands, done, place, thrown, seq, par, in_scope, exec, fail, wait, dead_wait, prot, no_strands, strand, State, live, caught, term, last, zombie, seq_of, prot_of, scope_of, is_within, stands_in}
-use Rattle.session_calculus.specs.Start.{Begun, begun, around, then_rest, normal, normal_members}
+use Rattle.std.proofs.Common.{◌≡◌, ℕ, List, [], ◌∷◌, ap, ◌∙◌, refl}
+use Rattle.behaviour_tree.specs.Data.{no_procs, proc}
+use Rattle.session_calculus.specs.Tables.{Table}
+use Rattle.session_calculus.specs.Terms.{Fault, Term, done, place, thrown, seq, par, in_scope, exec, fail, wait, dead_wait, prot, live, caught, term, last, zombie, prot_of}
 use Rattle.session_calculus.specs.Kill.{kill}
 use Rattle.session_contexts.specs.Contexts.{Layer, rests, scoped, asked, failed, kept, around_of, plug}
 use Rattle.session_contexts.specs.Walks.{killed_in, killed_within}

@@ -1,14 +1,13 @@
 -- Events in a context.
-use Rattle.std.proofs.Common.{◌≡◌, ℕ, Bool, true, false, List, [], ◌∷◌, ◌++◌, Option, None, Some, option_map, sym, ap, ◌∙◌, refl}
+use Rattle.std.proofs.Common.{◌≡◌, ℕ, true, false, List, [], ◌∷◌, Option, None, Some, option_map, sym, ap, ◌∙◌, refl}
 use Rattle.std.proofs.lemmas.Bool.{and_parts, false≢true}
-use Rattle.behaviour_tree.specs.Data.{Proc, PathTree, Procs, no_procs, proc}
-use Rattle.session_calculus.specs.Tables.{Table, entry}
-use Rattle.session_calculus.specs.Terms.{Fault, Term, Strands, done, place, thrown, seq, par, in_scope, exec, fail, wait, dead_wait, prot, no_strands, strand, State, live, caught, term, last, zombie, seq_of, prot_of, scope_of, is_within, stands_in}
-use Rattle.session_calculus.specs.Start.{Begun, begun, around, then_rest, normal, normal_members}
-use Rattle.session_calculus.specs.Moves.{Seen, Move, Made, moved_to, within, inside, in_its_scope}
+use Rattle.behaviour_tree.specs.Data.{PathTree, no_procs, proc}
+use Rattle.session_calculus.specs.Tables.{Table}
+use Rattle.session_calculus.specs.Terms.{Term, done, place, thrown, seq, par, in_scope, exec, fail, wait, dead_wait, prot, State, prot_of}
+use Rattle.session_calculus.specs.Moves.{Seen, Move, moved_to, within, inside, in_its_scope}
 use Rattle.session_calculus.specs.After.{moves}
 use Rattle.session_contexts.specs.Contexts.{Layer, rests, scoped, asked, failed, kept, around_of, plug, is_open, are_open}
-use Rattle.session_contexts.specs.Tidy.{tidy, tidied}
+use Rattle.session_contexts.specs.Tidy.{tidied}
 use Rattle.session_contexts.specs.Walks.{seen_in, seen_within, moved_in, moved_within}
 use Rattle.session_contexts.proofs.Tidying.{tidy-prot_of, tidy-twice, tidied-seq_of, tidied-prot_of}
 use Rattle.session_contexts.proofs.Standing.{in_layers}

@@ -1,16 +1,15 @@
 -- What stands in a context, and what is seen in it.
-use Rattle.std.proofs.Common.{◌≡◌, ℕ, Bool, true, false, ◌&&◌, List, [], ◌∷◌, ◌++◌, Option, None, Some, option_map, sym, ap, ◌∙◌, refl}
+use Rattle.std.proofs.Common.{◌≡◌, ℕ, true, false, List, [], ◌∷◌, ◌++◌, sym, ap, ◌∙◌, refl}
 use Rattle.std.proofs.lemmas.Bool.{false≢true}
 use Rattle.std.proofs.lemmas.List.{append-nil, append_assoc}
-use Rattle.behaviour_tree.specs.Data.{Proc, PathTree, Procs, no_procs, proc}
-use Rattle.session_calculus.specs.Tables.{Table, entry}
-use Rattle.session_calculus.specs.Terms.{Fault, Term, Strands, done, place, thrown, seq, par, in_scope, exec, fail, wait, dead_wait, prot, no_strands, strand, State, live, caught, term, last, zombie, seq_of, prot_of, scope_of, is_within, stands_in}
-use Rattle.session_calculus.specs.Start.{Begun, begun, around, then_rest, normal, normal_members}
+use Rattle.behaviour_tree.specs.Data.{no_procs, proc}
+use Rattle.session_calculus.specs.Tables.{Table}
+use Rattle.session_calculus.specs.Terms.{Term, done, place, thrown, seq, par, in_scope, exec, fail, wait, dead_wait, prot, strand, State, prot_of, is_within}
 use Rattle.session_calculus.specs.Ready.{ready_in}
 use Rattle.session_calculus.specs.Faults.{fault_in}
 use Rattle.session_calculus.specs.Moves.{Seen, inside}
 use Rattle.session_calculus.specs.Reached.{Passed, scopes_around}
-use Rattle.session_contexts.specs.Contexts.{Layer, rests, scoped, asked, failed, kept, around_of, plug, is_open, are_open}
+use Rattle.session_contexts.specs.Contexts.{Layer, rests, scoped, asked, failed, kept, around_of, plug, are_open}
 use Rattle.session_contexts.specs.Walks.{seen_within, looked_within, passed_within}
 
 -- what is kept holds the same strands

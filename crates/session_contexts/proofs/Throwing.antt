@@ -1,10 +1,9 @@
 -- Faults in a context.
-use Rattle.std.proofs.Common.{◌≡◌, ℕ, Bool, true, false, List, [], ◌∷◌, ◌++◌, Option, None, Some, option_map, sym, ap, ◌∙◌, refl}
+use Rattle.std.proofs.Common.{◌≡◌, ℕ, true, false, List, [], ◌∷◌, Option, None, Some, sym, ap, ◌∙◌, refl}
 use Rattle.std.proofs.lemmas.Bool.{and_parts, false≢true}
-use Rattle.behaviour_tree.specs.Data.{Proc, PathTree, Procs, no_procs, proc}
+use Rattle.behaviour_tree.specs.Data.{Proc, no_procs, proc}
 use Rattle.session_calculus.specs.Tables.{Table, entry}
-use Rattle.session_calculus.specs.Terms.{Fault, Term, Strands, done, place, thrown, seq, par, in_scope, exec, fail, wait, dead_wait, prot, no_strands, strand, State, live, caught, term, last, zombie, seq_of, prot_of, scope_of, is_within, stands_in}
-use Rattle.session_calculus.specs.Start.{Begun, begun, around, then_rest, normal, normal_members}
+use Rattle.session_calculus.specs.Terms.{Fault, Term, done, place, thrown, seq, par, in_scope, exec, fail, wait, dead_wait, prot, State, live, caught, term, last, zombie, seq_of, prot_of}
 use Rattle.session_calculus.specs.Ready.{ready}
 use Rattle.session_calculus.specs.Throw.{Carried, up, caught_at, ended_at, blocked, absent, surrounded, at_live, at_scope, reaches, throw}
 use Rattle.session_contexts.specs.Contexts.{Layer, rests, scoped, asked, failed, kept, around_of, plug, is_open, are_open}

@@ -1,12 +1,8 @@
 -- Forms that are kept, and forms said tidily.
-use Rattle.std.proofs.Common.{◌≡◌, ℕ, Bool, true, false, List, [], ◌∷◌, ◌++◌, Option, None, Some, option_map, sym, ap, ◌∙◌, refl}
-use Rattle.behaviour_tree.specs.Data.{Proc, PathTree, Procs, no_procs, proc}
-use Rattle.session_calculus.specs.Tables.{Table, entry}
-use Rattle.session_calculus.specs.Terms.{Fault, Term, Strands, done, place, thrown, seq, par, in_scope, exec, fail, wait, dead_wait, prot, no_strands, strand, State, live, caught, term, last, zombie, seq_of, prot_of, scope_of, is_within, stands_in}
-use Rattle.session_calculus.specs.Start.{Begun, begun, around, then_rest, normal, normal_members}
-use Rattle.session_calculus.specs.Moves.{Move, moved_to, within}
-use Rattle.session_calculus.specs.Throw.{Carried, up, caught_at, ended_at, blocked, absent, surrounded}
-use Rattle.session_contexts.specs.Tidy.{tidy, tidy_members, tidied, tidied_fault}
+use Rattle.std.proofs.Common.{◌≡◌, sym, ap, ◌∙◌, refl}
+use Rattle.behaviour_tree.specs.Data.{Procs, no_procs, proc}
+use Rattle.session_calculus.specs.Terms.{Term, Strands, done, place, thrown, seq, par, in_scope, exec, fail, wait, dead_wait, prot, no_strands, strand, seq_of, prot_of}
+use Rattle.session_contexts.specs.Tidy.{tidy, tidy_members}
 
 -- what is kept is kept once
 pub prot-twice : (t : Term) → prot_of (prot_of t) ≡ prot_of t

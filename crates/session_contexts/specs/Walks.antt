@@ -1,9 +1,8 @@
 -- What each layer adds to what a walk makes of the form in it.
-use Rattle.std.specs.Prelude.{ℕ, true, false, List, [], ◌∷◌, ◌++◌, if◌then◌else◌}
-use Rattle.behaviour_tree.specs.Data.{Procs, no_procs}
-use Rattle.session_calculus.specs.Tables.{Table}
-use Rattle.session_calculus.specs.Terms.{Fault, Term, done, in_scope, exec, fail, prot, State, live, caught, term, last, zombie, seq_of, prot_of, scope_of}
-use Rattle.session_calculus.specs.Start.{Begun, begun, around, then_rest}
+use Rattle.std.specs.Prelude.{ℕ, List, [], ◌∷◌, ◌++◌}
+use Rattle.behaviour_tree.specs.Data.{no_procs}
+use Rattle.session_calculus.specs.Terms.{Fault, Term, done, in_scope, exec, fail, prot, live, caught, term, seq_of, prot_of, scope_of}
+use Rattle.session_calculus.specs.Start.{Begun, around, then_rest}
 use Rattle.session_calculus.specs.Ready.{ready}
 use Rattle.session_calculus.specs.Throw.{Carried, surrounded, at_scope, reaches}
 use Rattle.session_calculus.specs.Moves.{Seen, Move, within, inside, in_its_scope}

@@ -1,4 +1,4 @@
-use Rattle.std.proofs.Common.{Some, take, sym, ap, ◌∙◌, arith}
+use Rattle.std.proofs.Common.{◌+◌, Some, take, sym, ap, ◌∙◌, arith}
 use Rattle.frame_arena.specs.Entries.{entries, new_entries}
 use Rattle.frame_arena.proofs.Rows.{taken_back}
 use Rattle.frame_arena.proofs.Seeking.{grown_more}
@@ -15,7 +15,7 @@ pub loop-i-preserved : goal.loop-i-preserved
 loop-i-preserved g c =
     let l = c.loop-i in
     record {
-      rows = grown_more c.args.rows.now.items l.rows.items c.push.new.rows.items c.new_row.result (Some c.args.parent) c.args.first l.i _
+      rows = grown_more c.args.rows.now.items l.rows.items c.push.new.rows.items c.new_row.result (Some c.args.parent) c.args.first l.i (l.i + 1)
           l.invariant.rows c.in_default.ensures.items c.new_row.ensures (omega arith);
       before = l.invariant.before;
     }

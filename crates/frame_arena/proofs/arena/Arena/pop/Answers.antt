@@ -1,4 +1,4 @@
-use Rattle.std.proofs.Common.{◌≡◌, ◌-◌, List, [], length, take, slice_get, refl, sym, ap, ◌∙◌, arith}
+use Rattle.std.proofs.Common.{◌-◌, [], length, take, slice_get, refl, sym, ap, ◌∙◌, arith}
 use Rattle.std.proofs.lemmas.List.{take_all}
 use Rattle.frame_arena.specs.Line.{Line}
 use Rattle.frame_arena.proofs.Reading.{rising_in, none_in, read_in, no_frames, frames_sound, frames_lines}
