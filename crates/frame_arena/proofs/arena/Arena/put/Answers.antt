@@ -17,9 +17,12 @@ returns-in_default g c =
 pub index_mut-requires-2 : goal.index_mut-requires-2
 index_mut-requires-2 g c =
     let i = c.self.inside in
+    let x = c.index_mut.result.now in
+    let below : c.args.place < length x.frames.items =
     subst (λ (l : Line g.row.F.Denot g.row.K.Denot). c.args.place < length l.frames)
-    (read_in i.rows.items c.deref.result.now c.args.self.now i.next c.args.strand.number c.in-Some.row c.index_mut.result.now c.self.invariant c.self.view_is
-    c.deref.ensures.value c.in-Some.ensures.row c.index_mut.ensures.value) c.requires
+    (read_in i.rows.items c.deref.result.now c.args.self.now i.next c.args.strand.number c.in-Some.row x c.self.invariant c.self.view_is
+    c.deref.ensures.value c.in-Some.ensures.row c.index_mut.ensures.value) c.requires in
+    omega (arith, below, x.frames.ok.0)
 
 pub invariant_of-self : goal.invariant_of-self
 invariant_of-self g c =
