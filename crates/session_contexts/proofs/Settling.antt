@@ -71,11 +71,11 @@ normal_outward (kept ∷ ls) t n = kept-normal (plug ls t) n ∙ ap (around prot
 
 -- one member, by whether it is the first
 one_member : (b : Bool) (j : ℕ) (u : Term) (ts : Strands) (k : ℕ) (t : Term) (n : ℕ)
-    → elim b [ true ↦ Unit {0} | false ↦ HasMember k ts ]
-    → elim b [ true ↦ AreNormal ts | false ↦ IsNormal u × OthersAreNormal k ts ]
+    → elim b as (λ _. Type 0) [ true ↦ Unit {0} | false ↦ HasMember k ts ]
+    → elim b as (λ _. Type 0) [ true ↦ AreNormal ts | false ↦ IsNormal u × OthersAreNormal k ts ]
     → ((m : ℕ) → HasMember k ts → OthersAreNormal k ts → normal_members (with_member k t ts) m ≡ around (λ v. with_member k v ts) (normal t m))
-    → normal_members (elim b [ true ↦ strand j t ts | false ↦ strand j u (with_member k t ts) ]) n
-    ≡ around (λ v. elim b [ true ↦ strand j v ts | false ↦ strand j u (with_member k v ts) ]) (normal t n)
+    → normal_members (elim b as (λ _. Strands) [ true ↦ strand j t ts | false ↦ strand j u (with_member k t ts) ]) n
+    ≡ around (λ v. elim b as (λ _. Strands) [ true ↦ strand j v ts | false ↦ strand j u (with_member k v ts) ]) (normal t n)
 one_member true j u ts k t n has others later = ap (around (strand j (normal t n).form)) (others (normal t n).next)
 one_member false j u ts k t n has others later =
     ap (λ b. around (strand j b.form) (normal_members (with_member k t ts) b.next)) (others.0 n)
