@@ -1,9 +1,12 @@
 -- What is taken off a list, or out of a row.
-use Rattle.std.proofs.Common.{◌≡◌, ℕ, ◌+◌, ◌-◌, List, [], ◌∷◌, ◌++◌, length, slice_get, Option, Some, None, option_to_list, MatchOption, sym, ap, ◌∙◌, refl, arith}
+use Rattle.std.proofs.Common.{◌≡◌, ℕ, ◌+◌, ◌-◌, List, [], ◌∷◌, ◌++◌, length, get_or, set, slice_get, Option, Some, None, option_to_list, MatchOption, sym, ap, ◌∙◌, refl, arith}
 use Rattle.std.proofs.lemmas.List.{length-append}
 use Rattle.frame_arena.specs.Line.{Line}
-use Rattle.frame_arena.specs.Entries.{entry, over}
+use Rattle.frame_arena.specs.Lines.{with_kept}
+use Rattle.frame_arena.specs.Entries.{entry, entries, over, lines_from}
+use Rattle.frame_arena.specs.Places.{IsSound, IsRowOf}
 use Rattle.frame_arena.specs.declared.row.Row.{Row}
+use Rattle.frame_arena.proofs.Reading.{kept_sound, kept_lines}
 
 -- nothing is read of an empty list
 nothing_at : {F : Type 0} (xs : List F) (i : ℕ) → length xs ≡ 0 → None ≡ slice_get xs i
@@ -24,7 +27,23 @@ popped old new None n m len is cases = nothing_at old (length old - 1) (omega (a
 popped {F} old new (Some x) n m len is cases = sym (ap (λ (l : List F). slice_get l (length l - 1)) is ∙ last_is new x)
 
 -- a row that keeps something else
-pub kept_alone : {F K : Type 0} (x r : Row F K) (ks : List K) → r.number ≡ x.number → r.is_live ≡ x.is_live → r.parent ≡ x.parent → r.first ≡ x.first
+kept_alone : {F K : Type 0} (x r : Row F K) (ks : List K) → r.number ≡ x.number → r.is_live ≡ x.is_live → r.parent ≡ x.parent → r.first ≡ x.first
     → r.count ≡ x.count → r.undone ≡ x.undone → r.frames ≡ x.frames → r.kept.items ≡ ks
     → entry r ≡ over (λ (l : Line F K). record l { kept = ks }) (entry x)
 kept_alone x r ks same_number same_live same_parent same_first same_count same_undone same_frames now = cc
+
+pub keeping_sound : {F K : Type 0} (rows xs : List (Row F K)) (ls : List (Line F K)) (next n k : ℕ) (x r : Row F K) (ks : List K) → IsSound (entries rows) next
+    → lines_from (entries rows) 0 next ≡ ls → xs ≡ rows → IsRowOf (entries xs) n k → x ≡ get_or rows k x
+    → r.number ≡ x.number → r.is_live ≡ x.is_live → r.parent ≡ x.parent → r.first ≡ x.first → r.count ≡ x.count → r.undone ≡ x.undone → r.frames ≡ x.frames
+    → r.kept.items ≡ ks → IsSound (entries (set rows k r)) next
+keeping_sound {F} {K} rows xs ls next n k x r ks sound view is row at number live parent first count undone frames now =
+    kept_sound rows xs ls next n k x r (λ (l : Line F K). record l { kept = ks }) (λ l. record { live = refl; parent = refl; first = refl; count = refl })
+    sound view is row at (kept_alone x r ks number live parent first count undone frames now)
+
+pub keeping_lines : {F K : Type 0} (rows xs : List (Row F K)) (ls : List (Line F K)) (next n k : ℕ) (x r : Row F K) (ks : List K) → IsSound (entries rows) next
+    → lines_from (entries rows) 0 next ≡ ls → xs ≡ rows → IsRowOf (entries xs) n k → x ≡ get_or rows k x
+    → r.number ≡ x.number → r.is_live ≡ x.is_live → r.parent ≡ x.parent → r.first ≡ x.first → r.count ≡ x.count → r.undone ≡ x.undone → r.frames ≡ x.frames
+    → r.kept.items ≡ ks → lines_from (entries (set rows k r)) 0 next ≡ with_kept ls n ks
+keeping_lines {F} {K} rows xs ls next n k x r ks sound view is row at number live parent first count undone frames now =
+    kept_lines rows xs ls next n k x r (λ (l : Line F K). record l { kept = ks }) (λ l. record { live = refl; parent = refl; first = refl; count = refl })
+    sound view is row at (kept_alone x r ks number live parent first count undone frames now)

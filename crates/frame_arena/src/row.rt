@@ -115,10 +115,10 @@ pub fn grow<F: Copy, K: Drop>(
 {
     let before = rows.len();
     for i in 0..count {
-        if let Err(_) = rows.push(new_row(alloc, first + i, Some(parent))) {
+        let Ok(()) = rows.push(new_row(alloc, first + i, Some(parent))) else {
             rows.truncate(before);
             return Err(AllocError);
-        }
+        };
     }
     Ok(())
 }

@@ -1,7 +1,7 @@
 use Rattle.std.proofs.Common.{[], refl, sym, ap, ◌∙◌}
 use Rattle.frame_arena.specs.Line.{Line}
-use Rattle.frame_arena.proofs.Reading.{rising_in, none_in, read_in, unchanged, kept_sound, kept_lines}
-use Rattle.frame_arena.proofs.Taking.{kept_alone}
+use Rattle.frame_arena.proofs.Reading.{rising_in, none_in, read_in, unchanged}
+use Rattle.frame_arena.proofs.Taking.{keeping_sound, keeping_lines}
 use Rattle.frame_arena.proofs.arena.Arena.take_kept.Goals as goal
 
 pub row_of-requires : goal.row_of-requires
@@ -10,11 +10,9 @@ row_of-requires g c = rising_in c.self.inside.rows.items c.deref.result.now c.se
 pub invariant_of-self : goal.invariant_of-self
 invariant_of-self g c =
     let i = c.self.inside in
-    let x = c.index_mut.result.now in
-    kept_sound i.rows.items c.deref.result.now c.args.self.now i.next c.args.strand.number c.in-Some.row x _
-    (λ (l : Line g.row.F.Denot g.row.K.Denot). record l { kept = [] }) (λ l. record { live = refl; parent = refl; first = refl; count = refl })
+    keeping_sound i.rows.items c.deref.result.now c.args.self.now i.next c.args.strand.number c.in-Some.row c.index_mut.result.now _ []
     c.self.invariant c.self.view_is c.deref.ensures.value c.in-Some.ensures.row c.index_mut.ensures.value
-    (kept_alone x _ [] refl refl refl refl refl refl refl (ap (λ v. v.items) c.replace.ensures.after ∙ c.new.ensures.items))
+    refl refl refl refl refl refl refl (ap (λ v. v.items) c.replace.ensures.after ∙ c.new.ensures.items)
 
 pub returns-in-Some-clause-kept : goal.returns-in-Some-clause-kept
 returns-in-Some-clause-kept g c =
@@ -27,11 +25,9 @@ returns-in-Some-clause-kept g c =
 pub returns-in-Some-clause-rest : goal.returns-in-Some-clause-rest
 returns-in-Some-clause-rest g c =
     let i = c.self.inside in
-    let x = c.index_mut.result.now in
-    kept_lines i.rows.items c.deref.result.now c.args.self.now i.next c.args.strand.number c.in-Some.row x _
-    (λ (l : Line g.row.F.Denot g.row.K.Denot). record l { kept = [] }) (λ l. record { live = refl; parent = refl; first = refl; count = refl })
+    keeping_lines i.rows.items c.deref.result.now c.args.self.now i.next c.args.strand.number c.in-Some.row c.index_mut.result.now _ []
     c.self.invariant c.self.view_is c.deref.ensures.value c.in-Some.ensures.row c.index_mut.ensures.value
-    (kept_alone x _ [] refl refl refl refl refl refl refl (ap (λ v. v.items) c.replace.ensures.after ∙ c.new.ensures.items))
+    refl refl refl refl refl refl refl (ap (λ v. v.items) c.replace.ensures.after ∙ c.new.ensures.items)
 
 pub returns-in-None-clause-kept : goal.returns-in-None-clause-kept
 returns-in-None-clause-kept g c =
