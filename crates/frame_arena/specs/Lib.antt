@@ -1,0 +1,4 @@
+pub mod Entries
+pub mod Line
+pub mod Lines
+pub mod Places
