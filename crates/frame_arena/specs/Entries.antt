@@ -10,6 +10,7 @@ pub record Entry (F K : Type 0) : Type 0 where
   pub number : ℕ
   pub line : Line F K
 
+-- what a row of the arena is as an entry
 abbrev pub entry : {F K : Type 0} → Row F K → Entry F K
 entry r = record {
   number = r.number;
@@ -24,6 +25,7 @@ entry r = record {
   };
 }
 
+-- what each of them is, in order
 abbrev pub entries : {F K : Type 0} → List (Row F K) → List (Entry F K)
 entries rows = map entry rows
 
@@ -35,6 +37,7 @@ numbers es = map (λ e. e.number) es
 abbrev pub is_used : {F K : Type 0} → Entry F K → Bool
 is_used e = e.line.is_live
 
+-- whether it is the row of the strand of a number, which is there
 abbrev pub has_number : {F K : Type 0} → ℕ → Entry F K → Bool
 has_number n e = nat_eq e.number n && e.line.is_live
 

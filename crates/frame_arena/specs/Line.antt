@@ -13,6 +13,7 @@ pub record Line (F K : Type 0) : Type 0 where
   pub frames : List F
   pub kept : List K
 
+-- how what a strand has is coded, where frames and what is kept are
 abbrev pub line_code : {F K : Type 0} → Coded F → Coded K → Coded (Line F K)
 line_code {F = F} {K = K} f k =
     code_by (Bool × (Option ℕ × (ℕ × (ℕ × (ℕ × (List F × List K))))))

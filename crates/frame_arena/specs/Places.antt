@@ -9,6 +9,7 @@ abbrev pub Rises : ℕ → List ℕ → ℕ → Type 0
 Rises from [] next = from ≤ next
 Rises from (n ∷ ns) next = (from ≤ n) × Rises (suc n) ns next
 
+-- the numbers rise
 abbrev pub IsRising : List ℕ → Type 0
 IsRising ns = (next : ℕ) × Rises 0 ns next
 
